@@ -1,5 +1,7 @@
 ghost use Rattle.std.specs.Prelude.{◌≡◌, [], ◌∷◌, ◌++◌, ◌<◌, ◌==◌, length, slice_index_or, OnOk, OnErr};
+ghost use Rattle.guest_base.specs.Levels.{level_at};
 
+use crate::memory::{HostRun, Level, Page};
 use std::alloc::{AllocError, Global};
 use std::marker::Model;
 
@@ -86,5 +88,17 @@ impl<T> Items<T> {
     {
         let Items { items } = self;
         items
+    }
+}
+
+impl Items<HostRun> {
+    /// The level at which the host maps a page: that of the first record that holds it, else Huge.
+    pub fn level(&self, page: Page) -> Level
+        ensures { result ≡ level_at self.now page.0 }
+    {
+        match self.items.iter().find(|run| run.pages.holds(page)) {
+            Some(run) => run.level,
+            None => Level::Huge,
+        }
     }
 }

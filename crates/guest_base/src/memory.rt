@@ -1,6 +1,6 @@
 //! Pages, units, blocks and their states.
 ghost use Rattle.std.specs.Prelude.{◌≡◌, ◌≢◌, ℕ, ◌+◌, ◌*◌, ◌^◌, ◌<◌, ◌≤◌, ◌↔◌, ◌⊎◌, IsTrue, IfSome, IfNone};
-ghost use Rattle.guest_base.specs.Ranges.{InRange};
+ghost use Rattle.guest_base.specs.Ranges.{InRange, in_range};
 ghost use Rattle.guest_base.specs.Levels.{level_pages};
 
 /// A page's number: its first byte stands at 4,096 times this number.
@@ -83,6 +83,13 @@ impl Pages {
         } else {
             Some(Pages { first, count })
         }
+    }
+
+    /// Whether the page is one of these.
+    pub fn holds(self, page: Page) -> bool
+        ensures { result ≡ in_range self.first self.count page.0 }
+    {
+        page.0 >= self.first && page.0 - self.first < self.count
     }
 
     /// Whether the two have a page in common.
