@@ -1,5 +1,6 @@
-ghost use Rattle.std.specs.Prelude.{◌≡◌, [], ◌∷◌, ◌++◌, ◌<◌, ◌==◌, length, slice_index_or, OnOk, OnErr};
-ghost use Rattle.guest_base.specs.Levels.{level_at};
+ghost use Rattle.std.specs.Prelude.{◌≡◌, [], ◌∷◌, ◌++◌, ◌<◌, ◌==◌, length, slice_index_or, find, OnOk, OnErr};
+ghost use Rattle.guest_base.specs.Levels.{level_at, level_or_huge};
+ghost use Rattle.guest_base.specs.Ranges.{in_range};
 
 use crate::memory::{HostRun, Level, Page};
 use std::alloc::{AllocError, Global};
@@ -96,9 +97,21 @@ impl Items<HostRun> {
     pub fn level(&self, page: Page) -> Level
         ensures { result ≡ level_at self.now page.0 }
     {
-        match self.items.iter().find(|run| run.pages.holds(page)) {
-            Some(run) => run.level,
-            None => Level::Huge,
-        }
+        level_or_huge_of(first_holding(self.items.as_slice(), page))
+    }
+}
+
+fn first_holding(runs: &[HostRun], page: Page) -> Option<HostRun>
+    ensures { result ≡ find (λ run. in_range run.pages.first run.pages.count page.0) runs.now }
+{
+    runs.iter().copied().find(|run| run.pages.holds(page))
+}
+
+fn level_or_huge_of(run: Option<HostRun>) -> Level
+    ensures { result ≡ level_or_huge run }
+{
+    match run {
+        Some(run) => run.level,
+        None => Level::Huge,
     }
 }
