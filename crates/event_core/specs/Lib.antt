@@ -1,1 +1,5 @@
+pub mod Calls
+pub mod Map
 pub mod Name
+pub mod Stub
+pub mod Units

@@ -1,2 +1,3 @@
-pub mod Ranges
 pub mod Levels
+pub mod Ranges
+pub mod Search

@@ -1,0 +1,80 @@
+use Rattle.std.specs.Prelude.{ℕ, List, Option, None, Some, Bool, true, false, ◌+◌, ◌-◌, ◌*◌, ◌/◌, ◌%◌, ◌==◌, ◌&&◌, nat_lt, nat_le, fold, length, slice_index, max, min, if◌then◌else◌}
+use Rattle.std.specs.Int.{bit_at}
+use Rattle.guest_base.specs.Search.{first_such, any_such, count_such, row_length}
+use Rattle.guest_base.specs.declared.memory.Units.{Units}
+use Rattle.event_core.specs.declared.boot.Boot.{Boot}
+use Rattle.event_core.specs.declared.module_call.ModuleCall.{ModuleCall}
+use Rattle.event_core.specs.declared.module_call.CallKind.{CallKind}
+use Rattle.event_core.specs.declared.module_call.CallKind.TheVariants.{Accept, Share, Unshare}
+use Rattle.event_core.specs.Calls.{is_done, covers}
+
+-- A bitmap has a unit in bytes, a base in bytes and its bytes; bit k mod 8 of byte k / 8 is the unit that begins at base + k * unit.
+
+-- the number of units of a bitmap
+abbrev pub unit_count : List ℕ → ℕ
+unit_count bits = 8 * length bits
+
+-- a unit's bit; a unit outside the bitmap has a clear bit
+abbrev pub bit_of : List ℕ → ℕ → Bool
+bit_of bits unit = nat_lt unit (unit_count bits) && (bit_at (slice_index bits (unit / 8)) (unit % 8) == 1)
+
+-- the pages of a unit, and the first of them
+abbrev pub unit_pages : Boot → ℕ
+unit_pages boot = boot.unit / 4096
+
+abbrev pub unit_first : Boot → ℕ → ℕ
+unit_first boot unit = boot.base / 4096 + unit * unit_pages boot
+
+-- the units from the one that holds the byte start up to the one that holds the byte before end, both counted from the base
+abbrev pub units_between : ℕ → ℕ → ℕ → Option Units
+units_between size start end =
+    if nat_lt start end then Some (record { first = start / size; count = (end + size - 1) / size - start / size }) else None
+
+-- an end on a unit's border grows by a unit, the guard: a load at the last bytes may stray into the next page
+abbrev pub with_guard : ℕ → ℕ → ℕ
+with_guard size end = if end % size == 0 then end + size else end
+
+-- the guarded units of len bytes from the address start on (after Linux's accept_memory in unaccepted_memory.c): what lies below
+-- the base is left out; a range that ends below it has none; the guard is added; the bitmap's end cuts the rest off
+abbrev pub guarded : ℕ → ℕ → ℕ → ℕ → ℕ → Option Units
+guarded size base count start len =
+    if nat_lt (start + len) base then None
+    else units_between size (max start base - base) (min (with_guard size (start + len - base)) (count * size))
+
+abbrev pub guarded_units : Boot → ℕ → ℕ → Option Units
+guarded_units boot start len = guarded boot.unit boot.base (unit_count boot.bits) start len
+
+-- whether a page of the unit is unaccepted after a call: an accept that was answered Ok clears it, and no other call does anything
+abbrev pub mark_step : ℕ → Bool → ModuleCall → Bool
+mark_step page marked call = elim call.kind [ Accept ↦ (if is_done call && covers call page then false else marked) | Share ↦ marked | Unshare ↦ marked ]
+
+-- whether no call accepted the page, in a unit whose bit was set at first
+abbrev pub is_marked : Bool → List ModuleCall → ℕ → Bool
+is_marked first calls page = fold (mark_step page) first calls
+
+-- a unit's bit after calls (after Linux's bitmap of unaccepted units): it was set at first, and a page of the unit was never accepted
+abbrev pub bit_after : Boot → List ModuleCall → ℕ → Bool
+bit_after boot calls unit =
+    elim (bit_of boot.bits unit) as (λ _. Bool) [ true ↦ any_such (is_marked true calls) (unit_first boot unit) (unit_pages boot) | false ↦ false ]
+
+-- the run that begins at a number, of the numbers below end that pass a test
+abbrev pub run_at : (ℕ → Bool) → ℕ → Option ℕ → Option Units
+run_at test end None = None
+run_at test end (Some first) = Some (record { first = first; count = row_length test first (end - first) })
+
+-- the first maximal run of numbers that pass a test, from `from` on and below `end`
+abbrev pub first_run : (ℕ → Bool) → ℕ → ℕ → Option Units
+first_run test from end = run_at test end (first_such test from (end - from))
+
+-- the end of units
+abbrev pub units_end : Units → ℕ
+units_end units = units.first + units.count
+
+-- the first maximal run of set bits among units, after calls, from a unit on
+abbrev pub run_after : Boot → List ModuleCall → Units → ℕ → Option Units
+run_after boot calls units from = first_run (bit_after boot calls) from (units_end units)
+
+-- how many of the units have their bit set after the calls before, and clear after the calls behind them
+abbrev pub units_cleared : Boot → List ModuleCall → List ModuleCall → Units → ℕ
+units_cleared boot before after units =
+    count_such (λ unit. bit_after boot before unit && (if bit_after boot after unit then false else true)) units.first units.count
