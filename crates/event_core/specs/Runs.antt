@@ -1,29 +1,29 @@
-use Rattle.std.specs.Prelude.{ℕ, List, [], ◌∷◌, Option, None, Some, Bool, ◌≡◌, ◌≢◌, ◌+◌, ◌<◌, ◌⊎◌, find}
+use Rattle.std.specs.Prelude.{ℕ, Bool, List, Option, ◌≡◌, ◌≢◌, ◌+◌, ◌<◌, ◌≤◌, find, All}
+use Rattle.std.specs.List.{AllPairs}
 use Rattle.std.specs.Option.{option_map}
 use Rattle.guest_base.specs.Ranges.{in_range}
 use Rattle.guest_base.specs.declared.memory.PageState.{PageState}
 use Rattle.guest_base.specs.declared.memory.PageRun.{PageRun}
 
--- the run that holds a page, and the state that the runs give to it; none where no run holds it
-abbrev pub holds : ℕ → PageRun → Bool
-holds page run = in_range run.pages.first run.pages.count page
+-- the page is one of the run's
+abbrev pub run_holds : ℕ → PageRun → Bool
+run_holds page run = in_range run.pages.first run.pages.count page
 
+-- the page behind a run's last
+abbrev pub run_end : PageRun → ℕ
+run_end run = run.pages.first + run.pages.count
+
+-- the state that a page has by runs: that of the first run that holds it, and none where no run does
 abbrev pub state_in : List PageRun → ℕ → Option PageState
-state_in runs page = option_map (λ (run : PageRun). run.state) (find (holds page) runs)
+state_in runs page = option_map (λ (run : PageRun). run.state) (find (run_holds page) runs)
 
--- a run begins behind another, or right behind it in another state
-abbrev pub GoesOnAfter : PageRun → PageRun → Type 0
-GoesOnAfter a b =
-    (a.pages.first + a.pages.count < b.pages.first)
-    ⊎ ((a.pages.first + a.pages.count ≡ b.pages.first) × (a.state ≢ b.state))
+-- a run ends where a later one begins, or before that; where the later one goes on right behind it, the states differ
+pub record GoesBefore (run later : PageRun) : Type 0 where
+  pub ends : run_end run ≤ later.pages.first
+  pub differs : run_end run ≡ later.pages.first → run.state ≢ later.state
 
--- runs have pages, rise, and none could be longer
-abbrev pub AreRuns : List PageRun → Type 0
-AreRuns [] = Unit {0}
-AreRuns (run ∷ []) = 0 < run.pages.count
-AreRuns (run ∷ next ∷ runs) = (0 < run.pages.count) × GoesOnAfter run next × AreRuns (next ∷ runs)
-
--- these are the maximal runs of pages of one state, rising
+-- The runs say each page's state; none is empty, they rise, and none could be longer: each is a maximal range of pages of one state.
 pub record AreMaximalRuns (states : ℕ → Option PageState) (runs : List PageRun) : Type 0 where
-  pub maximal : AreRuns runs
-  pub same : (page : ℕ) → state_in runs page ≡ states page
+  pub each : (page : ℕ) → state_in runs page ≡ states page
+  pub some : All (λ (run : PageRun). 0 < run.pages.count) runs
+  pub rise : AllPairs GoesBefore runs
