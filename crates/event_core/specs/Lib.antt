@@ -1,5 +1,8 @@
+pub mod Acceptance
 pub mod Calls
+pub mod Claims
 pub mod Map
+pub mod Moved
 pub mod Name
 pub mod Runs
 pub mod Stub
