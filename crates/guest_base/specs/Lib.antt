@@ -1,4 +1,6 @@
 pub mod Blocks
 pub mod Levels
 pub mod Ranges
+pub mod Requests
 pub mod Search
+pub mod Slots
