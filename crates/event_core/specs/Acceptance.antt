@@ -15,7 +15,7 @@ use Rattle.event_core.specs.Calls.{is_done, HonestHost}
 -- above `end`.
 
 -- a level fits at a place: the place is a multiple of its pages, and all these pages from the place on are in the set
-abbrev pub fits : (ℕ → Bool) → ℕ → Level → Bool
+unfoldable pub fits : (ℕ → Bool) → ℕ → Level → Bool
 fits set place level =
     elim (place % level_pages level == 0) as (λ _. Bool) [ true ↦ each_such set place (level_pages level) | false ↦ false ]
 

@@ -53,7 +53,7 @@ standing_step boot cpu at entry = record {
 }
 
 -- the open claim of a processor after memory's entries
-abbrev pub claim_of : Boot → List Entry → ℕ → Option Claimed
+unfoldable pub claim_of : Boot → List Entry → ℕ → Option Claimed
 claim_of boot memory cpu = (fold (standing_step boot cpu) (record { calls = boot.calls; claim = None }) memory).claim
 
 -- two ranges of units have a unit in common
@@ -65,7 +65,7 @@ abbrev pub claim_meets : Units → Option Claimed → Bool
 claim_meets units claim = option_map_or (λ (c : Claimed). units_meet c.units units) claim false
 
 -- the first processor whose open claim meets these units
-abbrev pub in_the_way : Boot → List Entry → Option Units → Option ℕ
+unfoldable pub in_the_way : Boot → List Entry → Option Units → Option ℕ
 in_the_way boot memory None = None
 in_the_way boot memory (Some units) = first_such (λ cpu. claim_meets units (claim_of boot memory cpu)) 0 boot.cpus
 

@@ -1,9 +1,17 @@
 pub mod Acceptance
+pub mod Boot
 pub mod Calls
 pub mod Claims
+pub mod Cut
+pub mod Legal
 pub mod Map
+pub mod MemoryRows
 pub mod Moved
 pub mod Name
+pub mod Next
+pub mod Own
+pub mod Refusals
 pub mod Runs
 pub mod Stub
+pub mod Turns
 pub mod Units

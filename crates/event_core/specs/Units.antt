@@ -36,7 +36,7 @@ with_guard size end = if end % size == 0 then end + size else end
 
 -- the guarded units of len bytes from the address start on (after Linux's accept_memory in unaccepted_memory.c): what lies below
 -- the base is left out; a range that ends below it has none; the guard is added; the bitmap's end cuts the rest off
-abbrev pub guarded : ℕ → ℕ → ℕ → ℕ → ℕ → Option Units
+unfoldable pub guarded : ℕ → ℕ → ℕ → ℕ → ℕ → Option Units
 guarded size base count start len =
     if nat_lt (start + len) base then None
     else units_between size (max start base - base) (min (with_guard size (start + len - base)) (count * size))
@@ -53,7 +53,7 @@ abbrev pub is_marked : Bool → List ModuleCall → ℕ → Bool
 is_marked first calls page = fold (mark_step page) first calls
 
 -- a unit's bit after calls (after Linux's bitmap of unaccepted units): it was set at first, and a page of the unit was never accepted
-abbrev pub bit_after : Boot → List ModuleCall → ℕ → Bool
+unfoldable pub bit_after : Boot → List ModuleCall → ℕ → Bool
 bit_after boot calls unit =
     elim (bit_of boot.bits unit) as (λ _. Bool) [ true ↦ any_such (is_marked true calls) (unit_first boot unit) (unit_pages boot) | false ↦ false ]
 
@@ -63,7 +63,7 @@ run_at test end None = None
 run_at test end (Some first) = Some (record { first = first; count = row_length test first (end - first) })
 
 -- the first maximal run of numbers that pass a test, from `from` on and below `end`
-abbrev pub first_run : (ℕ → Bool) → ℕ → ℕ → Option Units
+unfoldable pub first_run : (ℕ → Bool) → ℕ → ℕ → Option Units
 first_run test from end = run_at test end (first_such test from (end - from))
 
 -- the end of units
@@ -75,6 +75,6 @@ abbrev pub run_after : Boot → List ModuleCall → Units → ℕ → Option Uni
 run_after boot calls units from = first_run (bit_after boot calls) from (units_end units)
 
 -- how many of the units have their bit set after the calls before, and clear after the calls behind them
-abbrev pub units_cleared : Boot → List ModuleCall → List ModuleCall → Units → ℕ
+unfoldable pub units_cleared : Boot → List ModuleCall → List ModuleCall → Units → ℕ
 units_cleared boot before after units =
     count_such (λ unit. bit_after boot before unit && (if bit_after boot after unit then false else true)) units.first units.count

@@ -1,0 +1,49 @@
+use Rattle.std.specs.Prelude.{ℕ, zero, suc, List, [], ◌∷◌, ◌++◌, Option, None, Some, Bool, true, false, ◌≡◌, ◌+◌, is_none, length, slice_get, IsPermutation, replicate}
+use Rattle.std.specs.List.{flat_map}
+use Rattle.guest_base.specs.declared.memory.CpuNo.{CpuNo}
+use Rattle.event_core.specs.declared.boot.Boot.{Boot}
+use Rattle.event_core.specs.declared.command.Command.{Command}
+use Rattle.event_core.specs.declared.entry.Entry.{Entry}
+use Rattle.event_core.specs.declared.entry.Place.{Place}
+use Rattle.event_core.specs.Moved.{Moved, entries_of, made_by}
+use Rattle.event_core.specs.Next.{next_step}
+use Rattle.event_core.specs.Legal.{Follows, with_bytes, at_place, place_of}
+use Rattle.event_core.specs.declared.entry.Place.TheVariants.{Memory}
+
+-- Turns on one thread (own rule).
+
+-- A processor makes no event where it is finished or blocked. Only the memory's events can be blocked, and whether they are doesn't
+-- depend on the module's answers.
+abbrev pub is_idle : Boot → List (List Command) → List Moved → ℕ → Bool
+is_idle boot scripts history cpu =
+    is_none (next_step boot scripts cpu (made_by cpu history) (entries_of (at_place Memory history)) [])
+
+-- in an idle turn nothing is taken; in any other the turn's processor makes an entry that follows those taken before it
+abbrev pub TakenIn : Boot → List (List Command) → List Moved → List ℕ → List Entry → Type 0
+TakenIn boot scripts history [] taken = taken ≡ []
+TakenIn boot scripts history (cpu ∷ turns) [] = (is_idle boot scripts history cpu ≡ true) × TakenIn boot scripts history turns []
+TakenIn boot scripts history (cpu ∷ turns) (entry ∷ taken) =
+    elim (is_idle boot scripts history cpu) as (λ _. Type 0) [
+    | true ↦ TakenIn boot scripts history turns (entry ∷ taken)
+    | false ↦
+        (entry.cpu.0 ≡ cpu)
+        × Follows boot scripts history entry
+        × TakenIn boot scripts (history ++ with_bytes boot history entry ∷ []) turns taken
+    ]
+
+-- so many numbers from one on
+abbrev pub numbers_from : ℕ → ℕ → List ℕ
+numbers_from from zero = []
+numbers_from from (suc count) = from ∷ numbers_from (from + 1) count
+
+-- rounds of all processors, rising
+abbrev pub rounds_of : ℕ → ℕ → List ℕ
+rounds_of cpus zero = []
+rounds_of cpus (suc rounds) = numbers_from 0 cpus ++ rounds_of cpus rounds
+
+-- Turns in an order, and then round all processors in rising order until all entries are taken, make these entries.
+pub record Turned (boot : Boot) (scripts : List (List Command)) (order : List ℕ) (entries : List Entry) : Type 0 where
+  pub taken : List Entry
+  pub same : IsPermutation entries taken
+  pub rounds : ℕ
+  pub turns : TakenIn boot scripts [] (order ++ rounds_of (length scripts) rounds) taken
