@@ -13,5 +13,6 @@ pub mod Own
 pub mod Refusals
 pub mod Runs
 pub mod Stub
+pub mod Texts
 pub mod Turns
 pub mod Units
