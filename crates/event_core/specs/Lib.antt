@@ -10,6 +10,7 @@ pub mod Moved
 pub mod Name
 pub mod Next
 pub mod Own
+pub mod Printed
 pub mod Refusals
 pub mod Runs
 pub mod Stub
