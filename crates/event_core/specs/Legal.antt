@@ -60,9 +60,10 @@ place_of boot (event.DeviceWrote run off len) = place.Area run.area
 place_of boot (event.HostRead off len) = place.Area (area_of_offset boot off)
 place_of boot (event.HostWrote off len) = place.Area (area_of_offset boot off)
 
--- the module's answers in an event are those of the steps that it stands for
+-- the module's answers in an event are those of the steps that it stands for; conversions have none yet
 abbrev pub CallsFit : Boot → List Entry → Event → Type 0
 CallsFit boot memory (event.Report run calls stopped next) = AcceptsUnits boot (calls_of boot memory) run calls
+CallsFit boot memory (event.ConvertEnd block calls end) = ⊥
 CallsFit boot memory _ = Unit {0}
 
 -- an entry follows its processor's entries and those of its place
