@@ -1,0 +1,169 @@
+use Rattle.std.proofs.Common.{◌≡◌, ◌≢◌, ℕ, ◌+◌, ◌-◌, ◌<◌, ◌≤◌, Bool, true, false, ◌&&◌, Option, None, Some, List, [], ◌∷◌, ◌++◌, refl, sym, ◌∙◌, ap, subst, inl, inr, arith, cond, append_assoc, append-nil}
+use Rattle.std.specs.Prelude.{fold, map, filter, ◌⊎◌, ◌==◌, slice_get, length, nat_lt, max, min}
+use Rattle.std.specs.Option.{option_and_then, option_map, option_map_or}
+use Rattle.std.specs.List.{AllByRecursion}
+use Rattle.std.proofs.Math.Nat.{max_comm, min_comm}
+use Rattle.std.proofs.lemmas.Option.{slice_get_past}
+use Rattle.std.proofs.lemmas.Bool.{cases_Bool, cases_lt}
+use Rattle.guest_base.specs.Ranges.{in_range}
+use Rattle.guest_base.specs.Search.{first_such}
+use Rattle.guest_base.proofs.SearchLemmas.{first_such-None}
+use Rattle.guest_base.specs.declared.memory.Page.{Page}
+use Rattle.guest_base.specs.declared.memory.Units.{Units}
+use Rattle.guest_base.specs.declared.memory.Block.{Block}
+use Rattle.event_core.specs.declared.boot.Boot.{Boot}
+use Rattle.event_core.specs.declared.command.Command.{Command}
+use Rattle.event_core.specs.declared.command.Command.TheVariants as command
+use Rattle.event_core.specs.declared.module_call.ModuleCall.{ModuleCall}
+use Rattle.event_core.specs.declared.event.Event.{Event}
+use Rattle.event_core.specs.declared.event.Event.TheVariants as event
+use Rattle.event_core.specs.declared.entry.Place.{Place}
+use Rattle.event_core.specs.declared.entry.Place.TheVariants as place
+use Rattle.event_core.specs.declared.entry.Entry.{Entry}
+use Rattle.event_core.specs.declared.reply.Reply.{Reply}
+use Rattle.event_core.specs.Calls.{States, calls_in, calls_of, state_after, after_call, SoundCalls}
+use Rattle.event_core.specs.Runs.{state_in}
+use Rattle.event_core.specs.Claims.{Claimed, claim_step, goes_on, opened, claim_of, in_the_way, units_meet, claim_meets, ClaimsApart}
+use Rattle.event_core.specs.Units.{units_end}
+use Rattle.event_core.specs.MemoryRows.{page_state, pending_in, is_pending, AcceptsUnits, claim_event, run_of_claim}
+use Rattle.event_core.specs.Moved.{Moved, entries_of, made_by}
+use Rattle.event_core.specs.Own.{present, replied}
+use Rattle.event_core.specs.Refusals.{refusal_of}
+use Rattle.event_core.specs.Next.{Step, next_step, step_of, unrefused_step, refused_or, accept_step}
+use Rattle.event_core.specs.Legal.{FollowsOver, Follows, LegalAfter, Legal, with_bytes, moved_after, with_moved, at_place, place_of, CallsFit, same_place}
+use Rattle.event_core.proofs.StepsLemmas.{steps-sound, pending-is, second_of}
+use Rattle.event_core.proofs.StandingLemmas.{IsPlaced, quiet, claim_of-memory, calls_of-memory, calls_of-push, claim_of-push}
+
+pub state_after-append : (states : States) (a b : List ModuleCall) → state_after states (a ++ b) ≡ state_after (state_after states a) b
+state_after-append states [] b = refl
+state_after-append states (call ∷ a) b = state_after-append (after_call states call) a b
+
+pub SoundCalls-append : (states : States) (a b : List ModuleCall) → SoundCalls states a → SoundCalls (state_after states a) b → SoundCalls states (a ++ b)
+SoundCalls-append states [] b first second = second
+SoundCalls-append states (call ∷ a) b first second = (first.0, SoundCalls-append (after_call states call) a b first.1 second)
+
+both_second : (b c : Bool) → (b && c) ≡ true → c ≡ true
+both_second true c h = h
+both_second false c h = cc
+
+-- the calls for a run of units find their pages pending
+pub accepts-sound : (boot : Boot) (before : List ModuleCall) (run : Units) (calls : List ModuleCall) → AcceptsUnits boot before run calls → SoundCalls (page_state boot before) calls
+unfolding pending_in
+accepts-sound boot before run calls steps =
+    steps-sound boot.hosts _ _ _ _ calls (page_state boot before) (λ page low in_set. pending-is (page_state boot before page) (both_second _ _ in_set)) steps
+
+-- what an entry that follows calls is sound after a history
+fit-sound : (boot : Boot) (memory : List Entry) (e : Event) → CallsFit boot memory e → SoundCalls (page_state boot (calls_of boot memory)) (calls_in e)
+fit-sound boot memory (event.Report run calls stopped next) fit = accepts-sound boot (calls_of boot memory) run calls fit
+fit-sound boot memory (event.ConvertEnd block calls end) fit = absurd fit
+fit-sound boot memory event.Own fit = tt
+fit-sound boot memory (event.Claim block units run) fit = tt
+fit-sound boot memory (event.Got block) fit = tt
+fit-sound boot memory event.NoBlock fit = tt
+fit-sound boot memory (event.Freed block) fit = tt
+fit-sound boot memory (event.Asked found) fit = tt
+fit-sound boot memory (event.Touched page found) fit = tt
+fit-sound boot memory (event.ConvertBegin block to) fit = tt
+fit-sound boot memory (event.Looked area run) fit = tt
+fit-sound boot memory (event.CopiedIn run off len) fit = tt
+fit-sound boot memory (event.CopiedOut run off len) fit = tt
+fit-sound boot memory (event.Released run copied) fit = tt
+fit-sound boot memory (event.DeviceRead run off len) fit = tt
+fit-sound boot memory (event.DeviceWrote run off len) fit = tt
+fit-sound boot memory (event.HostRead off len) fit = tt
+fit-sound boot memory (event.HostWrote off len) fit = tt
+
+pub entries_of-push : (history : List Moved) (m : Moved) → entries_of (history ++ m ∷ []) ≡ entries_of history ++ m.entry ∷ []
+entries_of-push [] m = refl
+entries_of-push (h ∷ history) m = ap (λ es. h.entry ∷ es) (entries_of-push history m)
+
+pub placed-push : (boot : Boot) (history : List Moved) (m : Moved) → AllByRecursion (IsPlaced boot) history → IsPlaced boot m → AllByRecursion (IsPlaced boot) (history ++ m ∷ [])
+placed-push boot [] m placed here = (here, tt)
+placed-push boot (h ∷ history) m placed here = (placed.0, placed-push boot history m placed.1 here)
+
+same_place-Memory : (p : Place) → same_place place.Memory p ≡ true → p ≡ place.Memory
+same_place-Memory place.Memory h = refl
+same_place-Memory (place.Area a) h = cc
+same_place-Memory place.Own h = cc
+
+-- a memory's calls that fit stand where its entries do
+follows-sound : (boot : Boot) (scripts : List (List Command)) (history : List Moved) (entry : Entry) → AllByRecursion (IsPlaced boot) history → Follows boot scripts history entry → SoundCalls (page_state boot (calls_of boot (entries_of history))) (calls_in entry.event)
+follows-sound boot scripts history entry placed f =
+    elim (cases_Bool (same_place place.Memory (place_of boot entry.event))) [
+      | inl t ↦
+          (let at : entry.place ≡ place.Memory = f.over.place ∙ same_place-Memory (place_of boot entry.event) t in
+          let P : List ModuleCall → Type 0 = λ calls. SoundCalls (page_state boot calls) (calls_in entry.event) in
+          subst P (ap (λ p. calls_of boot (entries_of (at_place p history))) at ∙ calls_of-memory boot history placed)
+            (fit-sound boot (entries_of (at_place entry.place history)) entry.event f.over.calls))
+      | inr q ↦
+          (let P : List ModuleCall → Type 0 = λ calls. SoundCalls (page_state boot (calls_of boot (entries_of history))) calls in
+          subst P (sym (quiet boot entry.event q).0) tt)
+    ]
+
+-- a legal history's calls are sound
+pub legal-sound : (boot : Boot) (scripts : List (List Command)) (history : List Moved) (entries : List Entry) → AllByRecursion (IsPlaced boot) history → SoundCalls (state_in boot.ram) (calls_of boot (entries_of history)) → LegalAfter boot scripts history entries → SoundCalls (state_in boot.ram) (calls_of boot (entries_of history ++ entries))
+legal-sound boot scripts history [] placed sound legal = rw (append-nil (entries_of history)) sound
+legal-sound boot scripts history (entry ∷ entries) placed sound legal =
+    let m = with_bytes boot history entry in
+    let pushed = entries_of-push history m in
+    let now = SoundCalls-append (state_in boot.ram) (calls_of boot (entries_of history)) (calls_in entry.event) sound (follows-sound boot scripts history entry placed legal.0) in
+    let P : List ModuleCall → Type 0 = SoundCalls (state_in boot.ram) in
+    let Q : List Entry → Type 0 = λ es. SoundCalls (state_in boot.ram) (calls_of boot es) in
+    subst Q (ap (λ es. es ++ entries) pushed ∙ append_assoc (entries_of history) (entry ∷ []) entries)
+    (legal-sound boot scripts (history ++ m ∷ []) entries (placed-push boot history m placed legal.0.over.place)
+      (subst P (sym (ap (calls_of boot) pushed ∙ calls_of-push boot (entries_of history) entry)) now) legal.2)
+
+-- ---- claims are apart
+
+units_meet-swap : (a b : Units) → units_meet a b ≡ units_meet b a
+units_meet-swap a b = grind (arith, max_comm a.first b.first, min_comm (units_end a) (units_end b))
+
+-- where nothing is in the way, no claim meets the units
+in_the_way-none : (boot : Boot) (memory : List Entry) (units : Units) → in_the_way boot memory (Some units) ≡ None → (cpu : ℕ) → cpu < boot.cpus → claim_meets units (claim_of boot memory cpu) ≡ false
+unfolding in_the_way
+in_the_way-none boot memory units h cpu low = (first_such-None _ 0 boot.cpus h).fails cpu (omega arith) (omega arith)
+
+clear_of : (way : Option ℕ) (made e : Event) → elim way as (λ _. Option Event) [ None ↦ Some made | Some _ ↦ None ] ≡ Some e → (way ≡ None) × (made ≡ e)
+clear_of None made e h = (refl, cc)
+clear_of (Some cpu) made e h = cc
+
+-- a step that is a claim had nothing in its way
+claim_event-clear : (boot : Boot) (memory : List Entry) (block claimed : Option Block) (units asked : Option Units) (run : Option Units) → claim_event boot memory claimed asked ≡ Some (event.Claim block units run) → in_the_way boot memory units ≡ None
+claim_event-clear boot memory block claimed units asked run h =
+    let clear = clear_of (in_the_way boot memory asked) (event.Claim claimed asked (run_of_claim boot memory asked)) (event.Claim block units run) h in
+    let made : event.Claim claimed asked (run_of_claim boot memory asked) ≡ event.Claim block units run = clear.1 in
+    let same : units ≡ asked = cc in
+    ap (in_the_way boot memory) same ∙ clear.0
+
+mapped_claim : (made : Option Event) (reply : Option Reply) (e : Event) (told : Option Reply) → option_map (λ event. let s : Step = record { event = event; reply = reply } in s) made ≡ Some (record { event = e; reply = told }) → made ≡ Some e
+mapped_claim None reply e told h = cc
+mapped_claim (Some made) reply e told h = let same : Some made ≡ Some e = ap (option_map (λ (s : Step). s.event)) h in same
+
+accept-claim : (boot : Boot) (memory : List Entry) (open_one : Option Claimed) (asked : Option Units) (calls : List ModuleCall) (block : Option Block) (units run : Option Units) (reply : Option Reply) → accept_step boot memory open_one asked calls ≡ Some (record { event = event.Claim block units run; reply = reply }) → in_the_way boot memory units ≡ None
+accept-claim boot memory None asked calls block units run reply h =
+    claim_event-clear boot memory block None units asked run (mapped_claim (claim_event boot memory None asked) _ _ _ h)
+accept-claim boot memory (Some claim) asked calls block units run reply h = let no = ap (option_map (λ (s : Step). s.event)) h in cc
+
+unrefused-claim : (boot : Boot) (cpu : ℕ) (own : List Moved) (there : List Entry) (c : Command) (calls : List ModuleCall) (block : Option Block) (units run : Option Units) (reply : Option Reply) → unrefused_step boot cpu own there c calls ≡ Some (record { event = event.Claim block units run; reply = reply }) → in_the_way boot there units ≡ None
+unrefused-claim boot cpu own there (command.Accept start len) calls block units run reply h = accept-claim boot there _ _ calls block units run reply h
+unrefused-claim boot cpu own there (command.Query start len) calls block units run reply h = let no = ap (option_map (λ (s : Step). s.event)) h in cc
+unrefused-claim boot cpu own there _ calls block units run reply h = cc
+
+refused-claim : (refusal : Option Reply) (step : Option Step) (block : Option Block) (units run : Option Units) (reply : Option Reply) → refused_or refusal step ≡ Some (record { event = event.Claim block units run; reply = reply }) → step ≡ Some (record { event = event.Claim block units run; reply = reply })
+refused-claim None step block units run reply h = h
+refused-claim (Some r) step block units run reply h = let no = ap (option_map (λ (s : Step). s.event)) h in cc
+
+present-claim : (boot : Boot) (cpu : ℕ) (own : List Moved) (there : List Entry) (c : Option Command) (calls : List ModuleCall) (block : Option Block) (units run : Option Units) (reply : Option Reply) → option_and_then (λ command. step_of boot cpu own there command calls) c ≡ Some (record { event = event.Claim block units run; reply = reply }) → in_the_way boot there units ≡ None
+present-claim boot cpu own there None calls block units run reply h = cc
+present-claim boot cpu own there (Some c) calls block units run reply h = unrefused-claim boot cpu own there c calls block units run reply (refused-claim (refusal_of boot own c) _ block units run reply h)
+
+next-claim : (boot : Boot) (scripts : List (List Command)) (cpu : ℕ) (own : List Moved) (there : List Entry) (calls : List ModuleCall) (block : Option Block) (units run : Option Units) (reply : Option Reply) → next_step boot scripts cpu own there calls ≡ Some (record { event = event.Claim block units run; reply = reply }) → in_the_way boot there units ≡ None
+next-claim boot scripts cpu own there calls block units run reply h = present-claim boot cpu own there (present scripts cpu own) calls block units run reply h
+
+-- a processor with a step has a script
+next-cpu : (boot : Boot) (scripts : List (List Command)) (cpu : ℕ) (own : List Moved) (there : List Entry) (calls : List ModuleCall) (s : Step) → next_step boot scripts cpu own there calls ≡ Some s → cpu < length scripts
+next-cpu boot scripts cpu own there calls s h =
+    elim (cases_lt cpu (length scripts)) [
+      | inl low ↦ low
+      | inr high ↦ (let none = slice_get_past scripts cpu high in let no : None ≡ Some s = sym (ap (λ script. option_and_then (λ command. step_of boot cpu own there command calls) (option_and_then (λ commands. slice_get commands (replied own)) script)) none) ∙ h in cc)
+    ]
