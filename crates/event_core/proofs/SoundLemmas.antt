@@ -1,4 +1,4 @@
-use Rattle.std.proofs.Common.{◌≡◌, ◌≢◌, ℕ, ◌+◌, ◌-◌, ◌<◌, ◌≤◌, Bool, true, false, ◌&&◌, Option, None, Some, List, [], ◌∷◌, ◌++◌, refl, sym, ◌∙◌, ap, subst, inl, inr, arith, cond, append_assoc, append-nil}
+use Rattle.std.proofs.Common.{◌≡◌, ◌≢◌, ℕ, ◌+◌, ◌-◌, ◌<◌, ◌≤◌, Bool, true, false, ◌&&◌, Option, None, Some, List, [], ◌∷◌, ◌++◌, refl, sym, ◌∙◌, ap, subst, inl, inr, arith, cond, append_assoc, append-nil, eqb-true}
 use Rattle.std.specs.Prelude.{fold, map, filter, ◌⊎◌, ◌==◌, slice_get, length, nat_lt, max, min}
 use Rattle.std.specs.Option.{option_and_then, option_map, option_map_or}
 use Rattle.std.specs.List.{AllByRecursion}
@@ -23,6 +23,7 @@ use Rattle.event_core.specs.declared.entry.Entry.{Entry}
 use Rattle.event_core.specs.declared.reply.Reply.{Reply}
 use Rattle.event_core.specs.Calls.{States, calls_in, calls_of, state_after, after_call, SoundCalls}
 use Rattle.event_core.specs.Runs.{state_in}
+use Rattle.event_core.specs.AcceptedOnce.{AcceptedOnce}
 use Rattle.event_core.specs.Claims.{Claimed, claim_step, goes_on, opened, claim_of, in_the_way, units_meet, claim_meets, ClaimsApart}
 use Rattle.event_core.specs.Units.{units_end}
 use Rattle.event_core.specs.MemoryRows.{page_state, pending_in, is_pending, AcceptsUnits, claim_event, run_of_claim}
@@ -167,3 +168,113 @@ next-cpu boot scripts cpu own there calls s h =
       | inl low ↦ low
       | inr high ↦ (let none = slice_get_past scripts cpu high in let no : None ≡ Some s = sym (ap (λ script. option_and_then (λ command. step_of boot cpu own there command calls) (option_and_then (λ commands. slice_get commands (replied own)) script)) none) ∙ h in cc)
     ]
+
+-- the claims after entries: each is a processor's, and they are apart
+pub record AreApart (boot : Boot) (entries : List Entry) : Type 0 where
+  pub low : (cpu : ℕ) (claim : Claimed) → claim_of boot entries cpu ≡ Some claim → cpu < boot.cpus
+  pub apart : ClaimsApart boot entries
+
+-- a claim that a step makes is a new one, or has the units of the one before
+pub data Made (e : Event) (before : Option Claimed) (units : Units) : Type 0 where
+  New : (block : Option Block) (run : Units) → e ≡ event.Claim block (Some units) (Some run) → Made e before units
+  Kept : (old : Claimed) → before ≡ Some old → old.units ≡ units → Made e before units
+
+made-opened : (block : Option Block) (units run : Option Units) (calls : List ModuleCall) (before : Option Claimed) (claim : Claimed) → opened block units run calls ≡ Some claim → Made (event.Claim block units run) before claim.units
+made-opened block None run calls before claim h = cc
+made-opened block (Some units) None calls before claim h = cc
+made-opened block (Some units) (Some run) calls before claim h =
+    let same : Some units ≡ Some claim.units = ap (option_map (λ (c : Claimed). c.units)) h in
+    let there : units ≡ claim.units = cc in
+    New block run (ap (λ u. event.Claim block (Some u) (Some run)) there)
+
+made-reported : (boot : Boot) (calls now : List ModuleCall) (before : Option Claimed) (stopped : Option Page) (next : Option Units) (run : Units) (claim : Claimed) → goes_on boot calls now before stopped next ≡ Some claim → Made (event.Report run now stopped next) before claim.units
+made-reported boot calls now None stopped next run claim h = cc
+made-reported boot calls now (Some old) (Some page) next run claim h = cc
+made-reported boot calls now (Some old) None None run claim h = cc
+made-reported boot calls now (Some old) None (Some next) run claim h =
+    let same : Some old.units ≡ Some claim.units = ap (option_map (λ (c : Claimed). c.units)) h in
+    let there : old.units ≡ claim.units = cc in
+    Kept old refl there
+
+made-step : (boot : Boot) (calls : List ModuleCall) (before : Option Claimed) (e : Event) (claim : Claimed) → claim_step boot calls before e ≡ Some claim → Made e before claim.units
+made-step boot calls before (event.Claim block units run) claim h = made-opened block units run calls before claim h
+made-step boot calls before (event.Report run now stopped next) claim h = made-reported boot calls now before stopped next run claim h
+made-step boot calls before _ claim h = Kept claim h refl
+
+-- the claim of a processor after one more entry: its own may be new, each other's stays
+pub data After (boot : Boot) (entries : List Entry) (entry : Entry) (cpu : ℕ) (units : Units) : Type 0 where
+  Mine : (block : Option Block) (run : Units) → entry.cpu.0 ≡ cpu → entry.event ≡ event.Claim block (Some units) (Some run) → After boot entries entry cpu units
+  Before : (old : Claimed) → claim_of boot entries cpu ≡ Some old → old.units ≡ units → After boot entries entry cpu units
+
+after_made : (boot : Boot) (entries : List Entry) (entry : Entry) (cpu : ℕ) (units : Units) → entry.cpu.0 ≡ cpu → Made entry.event (claim_of boot entries cpu) units → After boot entries entry cpu units
+after_made boot entries entry cpu units same (New block run is) = Mine block run same is
+after_made boot entries entry cpu units same (Kept old was there) = Before old was there
+
+after : (boot : Boot) (entries : List Entry) (entry : Entry) (cpu : ℕ) (claim : Claimed) → claim_of boot (entries ++ entry ∷ []) cpu ≡ Some claim → After boot entries entry cpu claim.units
+after boot entries entry cpu claim h =
+    let now = sym (claim_of-push boot entries entry cpu) ∙ h in
+    elim (cases_Bool (entry.cpu.0 == cpu)) [
+      | inl t ↦ after_made boot entries entry cpu claim.units (eqb-true entry.cpu.0 cpu t) (made-step boot (calls_of boot entries) (claim_of boot entries cpu) entry.event claim (rw t at now))
+      | inr f ↦ Before claim (rw f at now) refl
+    ]
+
+-- a processor that makes a claim meets no claim of another
+mine-clear : (boot : Boot) (scripts : List (List Command)) (history : List Moved) (entry : Entry) (block : Option Block) (units run : Units) → AllByRecursion (IsPlaced boot) history → Follows boot scripts history entry → entry.event ≡ event.Claim block (Some units) (Some run) → (cpu : ℕ) (other : Claimed) → cpu < boot.cpus → claim_of boot (entries_of history) cpu ≡ Some other → units_meet other.units units ≡ false
+mine-clear boot scripts history entry block units run placed f is cpu other low claims =
+    let there = entries_of (at_place entry.place history) in
+    let stepped = f.over.step ∙ ap (λ e. Some (let s : Step = record { event = e; reply = entry.reply } in s)) is in
+    let clear = next-claim boot scripts entry.cpu.0 (made_by entry.cpu.0 history) there (calls_in entry.event) block (Some units) (Some run) entry.reply stepped in
+    let at : entry.place ≡ place.Memory = f.over.place ∙ ap (place_of boot) is in
+    let claimed : claim_of boot there cpu ≡ Some other = ap (λ p. claim_of boot (entries_of (at_place p history)) cpu) at ∙ claim_of-memory boot cpu history placed ∙ claims in
+    sym (ap (claim_meets units) claimed) ∙ in_the_way-none boot there units clear cpu low
+
+pair_apart : (boot : Boot) (scripts : List (List Command)) (history : List Moved) (entry : Entry) → AllByRecursion (IsPlaced boot) history → Follows boot scripts history entry → AreApart boot (entries_of history) → (c d : ℕ) (a b : Units) → c ≢ d → After boot (entries_of history) entry c a → After boot (entries_of history) entry d b → units_meet a b ≡ false
+pair_apart boot scripts history entry placed f was c d a b differ (Mine block run same is) (Mine block' run' same' is') = absurd (differ (sym same ∙ same'))
+pair_apart boot scripts history entry placed f was c d a b differ (Mine block run same is) (Before old had there) =
+    units_meet-swap a b ∙ ap (λ u. units_meet u a) (sym there) ∙ mine-clear boot scripts history entry block a run placed f is d old (was.low d old had) had
+pair_apart boot scripts history entry placed f was c d a b differ (Before old had there) (Mine block run same is) =
+    ap (λ u. units_meet u b) (sym there) ∙ mine-clear boot scripts history entry block b run placed f is c old (was.low c old had) had
+pair_apart boot scripts history entry placed f was c d a b differ (Before old had there) (Before other had' there') =
+    ap (λ u. units_meet u b) (sym there) ∙ ap (units_meet old.units) (sym there') ∙ was.apart c d old other differ had had'
+
+pub apart-push : (boot : Boot) (scripts : List (List Command)) (history : List Moved) (entry : Entry) → length scripts ≡ boot.cpus → AllByRecursion (IsPlaced boot) history → Follows boot scripts history entry → AreApart boot (entries_of history) → AreApart boot (entries_of history ++ entry ∷ [])
+apart-push boot scripts history entry cpus placed f was = record {
+  low = λ cpu claim h. elim (after boot (entries_of history) entry cpu claim h) [
+    | Mine block run same is ↦ (let low = next-cpu boot scripts entry.cpu.0 (made_by entry.cpu.0 history) (entries_of (at_place entry.place history)) (calls_in entry.event) (record { event = entry.event; reply = entry.reply }) f.over.step in omega (arith, low, same, cpus))
+    | Before old had there ↦ was.low cpu old had
+  ];
+  apart = λ c d a b differ ha hb. pair_apart boot scripts history entry placed f was c d a.units b.units differ (after boot (entries_of history) entry c a ha) (after boot (entries_of history) entry d b hb);
+}
+
+no_claim : (boot : Boot) (cpu : ℕ) → claim_of boot [] cpu ≡ None
+unfolding claim_of
+no_claim boot cpu = refl
+
+pub apart-start : (boot : Boot) → AreApart boot []
+apart-start boot = record {
+  low = λ cpu claim h. let no : None ≡ Some claim = sym (no_claim boot cpu) ∙ h in cc;
+  apart = λ c d a b differ ha hb. let no : None ≡ Some a = sym (no_claim boot c) ∙ ha in cc;
+}
+
+-- the claims are apart after a legal history
+pub legal-apart : (boot : Boot) (scripts : List (List Command)) (history : List Moved) (entries : List Entry) → length scripts ≡ boot.cpus → AllByRecursion (IsPlaced boot) history → AreApart boot (entries_of history) → LegalAfter boot scripts history entries → AreApart boot (entries_of history ++ entries)
+legal-apart boot scripts history [] cpus placed was legal = rw (append-nil (entries_of history)) was
+legal-apart boot scripts history (entry ∷ entries) cpus placed was legal =
+    let m = with_bytes boot history entry in
+    let pushed = entries_of-push history m in
+    let P : List Entry → Type 0 = AreApart boot in
+    subst P (ap (λ es. es ++ entries) pushed ∙ append_assoc (entries_of history) (entry ∷ []) entries)
+    (legal-apart boot scripts (history ++ m ∷ []) entries cpus (placed-push boot history m placed legal.0.over.place)
+      (subst P (sym pushed) (apart-push boot scripts history entry cpus placed legal.0 was)) legal.2)
+
+-- what begins a legal history is legal
+pub legal-front : (boot : Boot) (scripts : List (List Command)) (history : List Moved) (before later : List Entry) → LegalAfter boot scripts history (before ++ later) → LegalAfter boot scripts history before
+legal-front boot scripts history [] later legal = tt
+legal-front boot scripts history (entry ∷ before) later legal = (legal.0, legal.1, legal-front boot scripts (history ++ with_bytes boot history entry ∷ []) before later legal.2)
+
+-- a legal history accepts no page twice, where boot's calls are sound
+pub accepted_once : (boot : Boot) (scripts : List (List Command)) (entries : List Entry) → length scripts ≡ boot.cpus → SoundCalls (state_in boot.ram) boot.calls → Legal boot scripts entries → AcceptedOnce boot entries
+accepted_once boot scripts entries cpus sound legal = record {
+  sound = legal-sound boot scripts [] entries tt (rw (append-nil boot.calls) sound) legal;
+  apart = λ before later is. (legal-apart boot scripts [] before cpus tt (apart-start boot) (legal-front boot scripts [] before later (let P : List Entry → Type 0 = Legal boot scripts in subst P is legal))).apart;
+}

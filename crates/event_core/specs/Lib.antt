@@ -1,4 +1,5 @@
 pub mod Acceptance
+pub mod AcceptedOnce
 pub mod Boot
 pub mod Calls
 pub mod Claims
