@@ -1,5 +1,8 @@
 -- What reading a file leaves.
-use Rattle.std.specs.Prelude.{◌≡◌, ◌⊎◌, ℕ, List, [], ◌∷◌, ◌++◌, Result, Err}
+use Rattle.std.specs.Prelude.{◌≡◌, ◌⊎◌, ℕ, List, [], ◌∷◌, ◌++◌, Result, Err, String, string_bytes, Vec, find}
+use Rattle.std.specs.Option.{option_map_or}
+use Rattle.std.specs.Str.{bytes_eq}
+use Rattle.std.specs.declared.alloc.Global.{Global}
 use Rattle.guest_io.specs.declared.files.ReadFault.{ReadFault}
 use Rattle.guest_io.specs.declared.files.ReadFault.TheVariants.{NoMemory}
 
@@ -7,3 +10,7 @@ use Rattle.guest_io.specs.declared.files.ReadFault.TheVariants.{NoMemory}
 abbrev pub AsksFor : {B : Type 0} → List ℕ → Result B ReadFault → List (List ℕ) → List (List ℕ) → Type 0
 AsksFor name (Err NoMemory) old new = (new ≡ old ++ name ∷ []) ⊎ (new ≡ old)
 AsksFor name _ old new = new ≡ old ++ name ∷ []
+
+-- the bytes of the first entry of a name; a name without an entry is an empty file (own rule)
+abbrev pub content_of : List (String Global × Vec ℕ Global) → List ℕ → List ℕ
+content_of files name = option_map_or (λ file. file.1.items) (find (λ file. bytes_eq (string_bytes file.0) name) files) []

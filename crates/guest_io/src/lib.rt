@@ -2,7 +2,12 @@
 #![tactic(auto)]
 
 mod files;
+mod mem_files;
+mod mem_sink;
+mod numbered;
 mod sink;
 
 pub use files::{Files, ReadFault};
+pub use mem_files::MemFiles;
+pub use mem_sink::MemSink;
 pub use sink::{PutFault, Sink};

@@ -1,0 +1,97 @@
+ghost use Rattle.std.specs.Prelude.{◌≡◌, ◌≢◌, ℕ, ◌+◌, List, [], ◌∷◌, ◌++◌, Some, ◌<◌, ◌≤◌, length, true, if◌then◌else◌, IfOk, IsErrOf, ◌⊎◌};
+ghost use Rattle.guest_io.specs.Counts.{raised_by};
+ghost use Rattle.guest_io.specs.Failing.{fails_at};
+ghost use Rattle.guest_io.specs.Reading.{AsksFor, content_of};
+ghost use Rattle.std.specs.Prelude.{find, string_bytes};
+ghost use Rattle.std.specs.Option.{option_copied};
+ghost use Rattle.std.specs.Str.{bytes_eq};
+
+use crate::files::{Files, ReadFault};
+use crate::numbered::NumberedCalls;
+use guest_base::Bytes;
+use std::alloc::Global;
+
+/// Files in memory, whose calls with given numbers fail.
+#[derive(Debug, Drop)]
+pub struct MemFiles {
+    files: Vec<(String, Vec<u8>)>,
+    calls: NumberedCalls,
+    asked: Vec<String>,
+    bytes_read: u64,
+}
+
+impl MemFiles {
+    ghost use Rattle.guest_io.specs.MemFiles.{told, names_asked, faults_of, bytes_of, failing_of, calls_of, NeverFails};
+
+    /// The files by their names. A name that isn't there is an empty file; of several entries with
+    /// one name the first counts. The calls of `read_all` whose numbers, counted from 1, stand in
+    /// `failing` answer `Failed`, however long the file is.
+    pub fn new(alloc: Global, files: Vec<(String, Vec<u8>)>, failing: Vec<u64>) -> MemFiles
+        ensures holds { (name : List ℕ) → told result name ≡ Some (content_of files.items name) }
+        ensures asked { names_asked result ≡ [] }
+        ensures faults { faults_of result ≡ 0 }
+        ensures bytes_read { bytes_of result ≡ 0 }
+        ensures failing { failing_of result ≡ failing.items }
+        ensures calls { calls_of result ≡ 0 }
+        ensures never_fails { failing.items ≡ [] → NeverFails result }
+    {
+        MemFiles {
+            files,
+            calls: NumberedCalls::new(failing),
+            asked: Vec::new(alloc),
+            bytes_read: 0,
+        }
+    }
+}
+
+/// The first entry of this name.
+fn first_named<'a>(files: &'a [(String, Vec<u8>)], name: &str) -> Option<&'a (String, Vec<u8>)>
+    ensures { option_copied result ≡ find (λ file. bytes_eq (string_bytes file.0) name.now) files.now }
+{
+    files.iter().find(|file| file.0.as_str() == name)
+}
+
+/// The bytes of the first entry of this name, none where there is no such entry.
+fn find_content<'a>(files: &'a [(String, Vec<u8>)], name: &str) -> &'a [u8]
+    ensures { result.now ≡ content_of files.now name.now }
+{
+    match first_named(files, name) {
+        Some(file) => file.1.as_slice(),
+        None => &[],
+    }
+}
+
+impl Files for MemFiles {
+    ghost use Rattle.std.specs.Prelude.{◌≡◌, ℕ, ◌+◌, List, Some, ◌<◌, ◌≤◌, length, true, if◌then◌else◌, IfOk, IsErrOf, ◌⊎◌};
+    ghost use Rattle.guest_io.specs.Counts.{raised_by};
+    ghost use Rattle.guest_io.specs.Failing.{fails_at};
+    ghost use Rattle.guest_io.specs.Reading.{AsksFor};
+    ghost use Rattle.guest_io.specs.MemFiles.{told, names_asked, faults_of, bytes_of, failing_of, calls_of, NeverFails};
+
+    ghost holds = { told };
+
+    ghost asked = { names_asked };
+
+    ghost faults = { faults_of };
+
+    ghost bytes_read = { bytes_of };
+
+    ghost never_fails = { NeverFails };
+
+    ghost no_fault = { λ files h. h.1 };
+
+    fn read_all(&mut self, alloc: Global, name: &str, max: u64) -> Result<Bytes, ReadFault> {
+        let fails = self.calls.count();
+        self.asked.push(String::from_str(alloc, name)?)?;
+        if fails {
+            return Err(ReadFault::Failed);
+        }
+        let content = find_content(&self.files, name);
+        if content.len() as u64 > max {
+            return Err(ReadFault::TooLong);
+        }
+        let bytes = Vec::from_slice(alloc, content)?;
+        self.bytes_read = self.bytes_read.saturating_add(content.len() as u64);
+        Ok(Bytes::from_vec(bytes))
+    }
+}

@@ -1,0 +1,61 @@
+ghost use Rattle.std.specs.Prelude.{◌≡◌, [], Some};
+
+use crate::numbered::NumberedCalls;
+use crate::sink::{PutFault, Sink};
+use std::alloc::Global;
+
+/// A sink in memory, whose calls with given numbers fail.
+#[derive(Debug, Drop)]
+pub struct MemSink {
+    written: Vec<u8>,
+    calls: NumberedCalls,
+}
+
+impl MemSink {
+    ghost use Rattle.guest_io.specs.MemSink.{written_in, faults_of, failing_of, calls_of, NeverFails};
+
+    /// An empty sink. The calls of `put` whose numbers, counted from 1, stand in `failing` answer
+    /// `Failed` and write nothing.
+    pub fn new(alloc: Global, failing: Vec<u64>) -> MemSink
+        ensures written { written_in result ≡ Some [] }
+        ensures faults { faults_of result ≡ 0 }
+        ensures failing { failing_of result ≡ failing.items }
+        ensures calls { calls_of result ≡ 0 }
+        ensures never_fails { failing.items ≡ [] → NeverFails result }
+    {
+        MemSink {
+            written: Vec::new(alloc),
+            calls: NumberedCalls::new(failing),
+        }
+    }
+
+    /// All bytes written so far, in order.
+    pub fn written(&self) -> &[u8]
+        ensures { written_in self.now ≡ Some result.now }
+    {
+        self.written.as_slice()
+    }
+}
+
+impl Sink for MemSink {
+    ghost use Rattle.std.specs.Prelude.{◌≡◌, ℕ, ◌+◌, List, Some, ◌<◌, ◌≤◌, length, true, if◌then◌else◌, OnOk, IsErrOf, ◌⊎◌};
+    ghost use Rattle.guest_io.specs.Counts.{raised_by};
+    ghost use Rattle.guest_io.specs.Failing.{fails_at};
+    ghost use Rattle.guest_io.specs.MemSink.{written_in, faults_of, failing_of, calls_of, NeverFails};
+
+    ghost written = { written_in };
+
+    ghost faults = { faults_of };
+
+    ghost never_fails = { NeverFails };
+
+    ghost no_fault = { λ sink h. h.1 };
+
+    fn put(&mut self, alloc: Global, bytes: &[u8]) -> Result<(), PutFault> {
+        if self.calls.count() {
+            return Err(PutFault::Failed);
+        }
+        self.written.extend_from_slice(bytes)?;
+        Ok(())
+    }
+}
