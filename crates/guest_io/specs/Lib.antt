@@ -3,4 +3,6 @@ pub mod Failing
 pub mod MemFiles
 pub mod MemSink
 pub mod Reading
+pub mod RealFiles
+pub mod RealSink
 pub mod Writing

@@ -3,9 +3,13 @@ use Rattle.std.specs.Prelude.{◌≡◌, ℕ, List, [], map, Option, Some, strin
 use Rattle.guest_io.specs.Reading.{content_of}
 use Rattle.guest_io.specs.declared.mem_files.MemFiles.{MemFiles}
 
+-- the bytes of the file of a name
+abbrev pub content_in : MemFiles → List ℕ → List ℕ
+content_in files name = content_of files.files.items name
+
 -- what each name holds, which is always told
 abbrev pub told : MemFiles → List ℕ → Option (List ℕ)
-told files name = Some (content_of files.files.items name)
+told files name = Some (content_in files name)
 
 -- the names asked for
 abbrev pub names_asked : MemFiles → List (List ℕ)

@@ -1,0 +1,132 @@
+ghost use Rattle.std.specs.Prelude.{◌≡◌, ◌+◌, ◌<◌, ◌≤◌, [], length, vec_len, IfOk, IsErrOf, OnOk};
+ghost use Rattle.guest_io.specs.Counts.{raised_by, RoseByMoreThan};
+
+use crate::files::{Files, ReadFault};
+use guest_base::Bytes;
+use std::alloc::Global;
+use std::io::Read;
+use std::{fs, rt};
+
+/// The bytes asked of a file at once, at most.
+const CHUNK: usize = 4096;
+
+/// The files of the system, through its runtime. What they hold is never told.
+#[derive(Debug, Drop)]
+pub struct RealFiles<R> {
+    runtime: R,
+    asked: Vec<String>,
+    faults: u64,
+    bytes_read: u64,
+}
+
+impl<R> RealFiles<R> {
+    ghost use Rattle.guest_io.specs.RealFiles.{names_asked, faults_of, bytes_of};
+
+    /// The files of this runtime.
+    pub fn new(alloc: Global, runtime: R) -> RealFiles<R>
+        ensures asked { names_asked result ≡ [] }
+        ensures faults { faults_of result ≡ 0 }
+        ensures bytes_read { bytes_of result ≡ 0 }
+    {
+        RealFiles {
+            runtime,
+            asked: Vec::new(alloc),
+            faults: 0,
+            bytes_read: 0,
+        }
+    }
+}
+
+/// Reads at most `room` more bytes, counts them and tells how many; none is the file's end.
+fn read_some<F: Read>(
+    file: &mut F,
+    bytes: &mut Vec<u8>,
+    room: u64,
+    bytes_read: &mut u64,
+) -> Result<usize, ReadFault>
+    ensures grows { IfOk result (λ taken. vec_len bytes.new ≡ vec_len bytes.old + taken) }
+    ensures within { IfOk result (λ taken. taken ≤ room) }
+    ensures counts { IfOk result (λ taken. bytes_read.new ≡ raised_by taken bytes_read.old) }
+    ensures never_falls { bytes_read.old ≤ bytes_read.new }
+    ensures no_length { IsErrOf result ReadFault.TooLong → ⊥ }
+{
+    let mut chunk = [0u8; CHUNK];
+    let wanted = room.min(CHUNK as u64) as usize;
+    let Ok(taken) = file.read(&mut chunk[..wanted]) else {
+        return Err(ReadFault::Failed);
+    };
+    *bytes_read = bytes_read.saturating_add(taken as u64);
+    bytes.extend_from_slice(&chunk[..taken])?;
+    Ok(taken)
+}
+
+/// All bytes of an open file that has at most `max`, counting those that it read.
+fn read_whole<F: Read>(
+    alloc: Global,
+    file: &mut F,
+    max: u64,
+    bytes_read: &mut u64,
+) -> Result<Vec<u8>, ReadFault>
+    ensures within { IfOk result (λ bytes. vec_len bytes ≤ max) }
+    ensures too_long { IsErrOf result ReadFault.TooLong → RoseByMoreThan max bytes_read.old bytes_read.new }
+    ensures counts { IfOk result (λ bytes. bytes_read.new ≡ raised_by (vec_len bytes) bytes_read.old) }
+    ensures never_falls { bytes_read.old ≤ bytes_read.new }
+{
+    let _before = *bytes_read;
+    let mut bytes = Vec::new(alloc);
+    while bytes.len() as u64 <= max {
+        let room = max - bytes.len() as u64;
+        if read_some(file, &mut bytes, room.saturating_add(1), bytes_read)? == 0 {
+            return Ok(bytes);
+        }
+    }
+    Err(ReadFault::TooLong)
+}
+
+/// All bytes of the file of this name, which has at most `max`, counting those that it read.
+fn read_named<R: rt::Files>(
+    alloc: Global,
+    runtime: &R,
+    name: &str,
+    max: u64,
+    bytes_read: &mut u64,
+) -> Result<Vec<u8>, ReadFault>
+    ensures within { IfOk result (λ bytes. vec_len bytes ≤ max) }
+    ensures too_long { IsErrOf result ReadFault.TooLong → RoseByMoreThan max bytes_read.old bytes_read.new }
+    ensures counts { IfOk result (λ bytes. bytes_read.new ≡ raised_by (vec_len bytes) bytes_read.old) }
+    ensures never_falls { bytes_read.old ≤ bytes_read.new }
+{
+    let Ok(mut file) = fs::open(runtime, name) else {
+        return Err(ReadFault::Failed);
+    };
+    read_whole(alloc, &mut file, max, bytes_read)
+}
+
+impl<R: rt::Files> Files for RealFiles<R> {
+    ghost use Rattle.std.specs.Prelude.{◌≡◌, ◌≤◌, length, None, IfOk, IsErrOf};
+    ghost use Rattle.guest_io.specs.Counts.{raised_by, RoseByMoreThan, Rose};
+    ghost use Rattle.guest_io.specs.Reading.{AsksFor};
+    ghost use Rattle.guest_io.specs.RealFiles.{names_asked, faults_of, bytes_of};
+
+    ghost holds = { λ _ _. None };
+
+    ghost asked = { names_asked };
+
+    ghost faults = { faults_of };
+
+    ghost bytes_read = { bytes_of };
+
+    ghost never_fails = { λ _. ⊥ };
+
+    ghost no_fault = { λ _ h. absurd h };
+
+    /// All bytes of the file of this name. Whatever the system refuses is a fault.
+    fn read_all(&mut self, alloc: Global, name: &str, max: u64) -> Result<Bytes, ReadFault> {
+        self.asked.push(String::from_str(alloc, name)?)?;
+        let read = read_named(alloc, &self.runtime, name, max, &mut self.bytes_read);
+        if let Err(ReadFault::Failed) = read {
+            self.faults = self.faults.saturating_add(1);
+        }
+        Ok(Bytes::from_vec(read?))
+    }
+}
