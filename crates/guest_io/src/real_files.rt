@@ -105,7 +105,7 @@ fn read_named<R: rt::Files>(
 impl<R: rt::Files> Files for RealFiles<R> {
     ghost use Rattle.std.specs.Prelude.{◌≡◌, ◌≤◌, length, None, IfOk, IsErrOf};
     ghost use Rattle.guest_io.specs.Counts.{raised_by, RoseByMoreThan, Rose};
-    ghost use Rattle.guest_io.specs.Reading.{AsksFor};
+    ghost use Rattle.guest_io.specs.Reading.{AsksFor, faults_after};
     ghost use Rattle.guest_io.specs.RealFiles.{names_asked, faults_of, bytes_of};
 
     ghost holds = { λ _ _. None };
@@ -120,8 +120,18 @@ impl<R: rt::Files> Files for RealFiles<R> {
 
     ghost no_fault = { λ _ h. absurd h };
 
-    /// All bytes of the file of this name. Whatever the system refuses is a fault.
-    fn read_all(&mut self, alloc: Global, name: &str, max: u64) -> Result<Bytes, ReadFault> {
+    /// All bytes of the file of this name. Whatever the system refuses is a fault; at most
+    /// `max + 1` bytes are read.
+    fn read_all(&mut self, alloc: Global, name: &str, max: u64) -> Result<Bytes, ReadFault>
+        ensures within { IfOk result (λ bytes. length bytes ≤ max) }
+        ensures counts { IfOk result (λ bytes. bytes_of self.new ≡ raised_by (length bytes) (bytes_of self.old)) }
+        ensures too_long { IsErrOf result ReadFault.TooLong → RoseByMoreThan max (bytes_of self.old) (bytes_of self.new) }
+
+        ensures asks { AsksFor name.now result (names_asked self.old) (names_asked self.new) }
+        ensures faults { faults_of self.new ≡ faults_after result (faults_of self.old) }
+        ensures faults_kept { faults_of self.old ≤ faults_of self.new }
+        ensures bytes_kept { bytes_of self.old ≤ bytes_of self.new }
+    {
         self.asked.push(String::from_str(alloc, name)?)?;
         let read = read_named(alloc, &self.runtime, name, max, &mut self.bytes_read);
         if let Err(ReadFault::Failed) = read {

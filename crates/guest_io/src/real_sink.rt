@@ -34,7 +34,8 @@ fn write_whole<R: Print>(runtime: &R, bytes: &[u8]) -> bool {
 }
 
 impl<R: Print> Sink for RealSink<R> {
-    ghost use Rattle.std.specs.Prelude.{None};
+    ghost use Rattle.std.specs.Prelude.{◌≡◌, ◌≤◌, None, IsErrOf};
+    ghost use Rattle.guest_io.specs.Writing.{faults_after};
     ghost use Rattle.guest_io.specs.RealSink.{faults_of};
 
     ghost written = { λ _. None };
@@ -45,8 +46,13 @@ impl<R: Print> Sink for RealSink<R> {
 
     ghost no_fault = { λ _ h. absurd h };
 
-    /// Writes these bytes to standard output. A write that takes none of them is a fault.
-    fn put(&mut self, alloc: Global, bytes: &[u8]) -> Result<(), PutFault> {
+    /// Writes these bytes to standard output. A write that takes none of them is a fault. No memory
+    /// is wanted.
+    fn put(&mut self, alloc: Global, bytes: &[u8]) -> Result<(), PutFault>
+        ensures faults { faults_of self.new ≡ faults_after result (faults_of self.old) }
+        ensures faults_kept { faults_of self.old ≤ faults_of self.new }
+        ensures memory { IsErrOf result PutFault.NoMemory → ⊥ }
+    {
         if write_whole(&self.runtime, bytes) {
             Ok(())
         } else {
