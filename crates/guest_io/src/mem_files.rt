@@ -115,3 +115,33 @@ impl Files for MemFiles {
         Ok(Bytes::from_vec(bytes))
     }
 }
+
+#[cfg(test)]
+mod tests {
+    use super::*;
+    use std::test::Fail;
+
+    #[test]
+    fn reads_the_first_entry_and_fails_as_told(rt: HostRuntime) -> Result<(), Fail> {
+        let alloc = rt.alloc();
+        let mut entries = Vec::new(alloc);
+        entries.push((String::from_str(alloc, "map")?, b"one".to_vec(alloc)?))?;
+        entries.push((String::from_str(alloc, "map")?, b"two".to_vec(alloc)?))?;
+        let mut files = MemFiles::new(alloc, entries, vec![in alloc; 4]?);
+        assert_eq!(rt;
+            files.read_all(alloc, "map", 3)?.as_slice(),
+            b"one".as_slice()
+        );
+        assert!(rt; files.read_all(alloc, "script", 3)?.is_empty());
+        assert_eq!(rt;
+            files.read_all(alloc, "map", 2).err(),
+            Some(ReadFault::TooLong)
+        );
+        assert_eq!(rt;
+            files.read_all(alloc, "map", 2).err(),
+            Some(ReadFault::Failed)
+        );
+        assert_eq!(rt; files.asked.len(), 4);
+        Ok(())
+    }
+}

@@ -71,3 +71,20 @@ impl Sink for MemSink {
         Ok(())
     }
 }
+
+#[cfg(test)]
+mod tests {
+    use super::*;
+    use std::test::Fail;
+
+    #[test]
+    fn keeps_what_was_put(rt: HostRuntime) -> Result<(), Fail> {
+        let alloc = rt.alloc();
+        let mut sink = MemSink::new(alloc, vec![in alloc; 2]?);
+        sink.put(alloc, b"cpu 0\n")?;
+        assert_eq!(rt; sink.put(alloc, b"pages\n"), Err(PutFault::Failed));
+        sink.put(alloc, b"end\n")?;
+        assert_eq!(rt; sink.written(), b"cpu 0\nend\n".as_slice());
+        Ok(())
+    }
+}

@@ -140,3 +140,35 @@ impl<R: rt::Files> Files for RealFiles<R> {
         Ok(Bytes::from_vec(read?))
     }
 }
+
+#[cfg(test)]
+mod tests {
+    use super::*;
+    use std::test::Fail;
+    use std::{env, process};
+
+    #[test]
+    fn reads_what_was_written(rt: HostRuntime) -> Result<(), Fail> {
+        let alloc = rt.alloc();
+        let name = format!(in alloc; "guest_io_{}", process::id(rt.process()))?;
+        let path = env::temp_dir(&rt)?.join(alloc, name.as_str())?;
+        let content = vec![in alloc; 7; 5000]?;
+        fs::write(&rt, path.as_str(), content.as_slice())?;
+
+        let mut files = RealFiles::new(alloc, rt);
+        let read = files.read_all(alloc, path.as_str(), 5000);
+        let long = files.read_all(alloc, path.as_str(), 4999).err();
+        fs::remove_file(&rt, path.as_str())?;
+        assert_eq!(rt; read?.as_slice(), content.as_slice());
+        assert_eq!(rt; long, Some(ReadFault::TooLong));
+        assert_eq!(rt; files.bytes_read, 10_000);
+
+        assert_eq!(rt; files.faults, 0);
+        assert_eq!(rt;
+            files.read_all(alloc, path.as_str(), 1).err(),
+            Some(ReadFault::Failed)
+        );
+        assert_eq!(rt; files.faults, 1);
+        Ok(())
+    }
+}

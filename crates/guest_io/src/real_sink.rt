@@ -61,3 +61,17 @@ impl<R: Print> Sink for RealSink<R> {
         }
     }
 }
+
+#[cfg(test)]
+mod tests {
+    use super::*;
+    use std::test::Fail;
+
+    #[test]
+    fn writes_to_standard_output(rt: HostRuntime) -> Result<(), Fail> {
+        let mut sink = RealSink::new(rt);
+        sink.put(rt.alloc(), b"guest\n")?;
+        assert_eq!(rt; sink.faults, 0);
+        Ok(())
+    }
+}
