@@ -5,3 +5,4 @@ pub mod Ranges
 pub mod Requests
 pub mod Search
 pub mod Slots
+pub mod Counts

@@ -1,0 +1,10 @@
+//! The page table, the spans of pages that are taken out of it, and the ports to the secure module.
+#![tactic(auto)]
+
+mod port;
+mod span;
+mod ticket;
+
+pub use port::Port;
+pub use span::Span;
+pub use ticket::Ticket;
