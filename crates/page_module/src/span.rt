@@ -28,9 +28,7 @@ impl Model for Span {
 
     ghost view = { λ s. record { ticket = s.ticket; runs = runs_now s.runs.items } };
 
-    ghost invariant = {
-        λ s. RunsFrom s.ticket.pages.first (s.ticket.pages.first + s.ticket.pages.count) s.runs.items
-            × (length s.runs.items ≤ s.ticket.runs)
-            × (s.ticket.pages.first + s.ticket.pages.count ≤ 2 ^ 28)
-    };
+    ghost invariant = { λ s. RunsFrom s.ticket.pages.first (s.ticket.pages.first + s.ticket.pages.count) s.runs.items
+        × (length s.runs.items ≤ s.ticket.runs)
+        × (s.ticket.pages.first + s.ticket.pages.count ≤ 2 ^ 28) };
 }
