@@ -1,3 +1,4 @@
 pub mod States
 pub mod Spans
+pub mod Marking
 pub mod Modules

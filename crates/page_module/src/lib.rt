@@ -1,10 +1,12 @@
 //! The page table, the spans of pages that are taken out of it, and the ports to the secure module.
 #![tactic(auto)]
 
+mod mem_port;
 mod port;
 mod span;
 mod ticket;
 
+pub use mem_port::MemPort;
 pub use port::Port;
 pub use span::Span;
 pub use ticket::Ticket;

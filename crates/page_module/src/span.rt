@@ -1,7 +1,10 @@
 //! Spans of pages.
+ghost use Rattle.std.specs.Prelude.{◌≡◌, ◌⊎◌, ◌+◌, ◌≤◌, ◌<◌, ◌^◌, map, All, true, length, Option, Some, None, IfSome, IfNone, if◌then◌else◌};
+ghost use Rattle.guest_base.specs.Ranges.{in_range};
+ghost use Rattle.guest_base.specs.declared.memory.PageState.TheVariants.{Accepted};
 
 use crate::ticket::Ticket;
-use guest_base::PageRun;
+use guest_base::{Page, PageRun, PageState, Pages};
 use std::marker::Model;
 
 /// A run of pages as it was taken, of which the first `accepted` were accepted since.
@@ -31,4 +34,108 @@ impl Model for Span {
     ghost invariant = { λ s. RunsFrom s.ticket.pages.first (s.ticket.pages.first + s.ticket.pages.count) s.runs.items
         × (length s.runs.items ≤ s.ticket.runs)
         × (s.ticket.pages.first + s.ticket.pages.count ≤ 2 ^ 28) };
+}
+
+impl Span {
+    ghost use Rattle.page_module.specs.States.{state_in};
+    ghost use Rattle.page_module.specs.Spans.{BeginsPending, Becomes};
+    ghost use Rattle.page_module.specs.Marking.{IsFirstPending, NonePending};
+
+    /// The span's pages.
+    pub fn pages(&self) -> Pages
+        ensures { result ≡ self.now.ticket.pages }
+    {
+        self.ticket.pages
+    }
+
+    /// The state of a page of the span.
+    pub fn state(&self, page: Page) -> PageState
+        requires { in_range self.now.ticket.pages.first self.now.ticket.pages.count page.0 ≡ true }
+        ensures { state_in self.now.runs page.0 ≡ Some result }
+    {
+        for taken in &self.runs {
+            if taken.run.pages.holds(page) {
+                return taken.state_of(page);
+            }
+        }
+        unreachable!()
+    }
+
+    /// Gives pages a state: the whole span any, or the first pages of a maximal run of Pending pages the
+    /// state Accepted.
+    pub fn mark(&mut self, pages: Pages, state: PageState)
+        requires { (pages ≡ self.old.ticket.pages) ⊎ ((state ≡ Accepted) × BeginsPending self.old pages.first pages.count) }
+        ensures { Becomes state self.old self.new pages.first pages.count }
+    {
+        if pages == self.ticket.pages {
+            set_state(&mut self.runs, state);
+        } else {
+            accept_pages(&mut self.runs, pages);
+        }
+    }
+}
+
+impl TakenRun {
+    /// The state of one of its pages.
+    fn state_of(&self, page: Page) -> PageState
+        ensures { result ≡ (if in_range self.now.run.pages.first self.now.accepted page.0 then Accepted else self.now.run.state) }
+    {
+        let accepted = Pages {
+            first: self.run.pages.first,
+            count: self.accepted,
+        };
+        if accepted.holds(page) {
+            PageState::Accepted
+        } else {
+            self.run.state
+        }
+    }
+}
+
+ghost use Rattle.page_module.specs.Marking.{all_in_state, accepted_in, rest_first, EndsInMemory};
+
+/// Gives every page a state.
+fn set_state(runs: &mut Vec<TakenRun>, state: PageState)
+    ensures { runs.new.items ≡ map (all_in_state state) runs.old.items }
+{
+    for taken in runs.iter_mut() {
+        *taken = all_of(*taken, state);
+    }
+}
+
+fn all_of(taken: TakenRun, state: PageState) -> TakenRun
+    ensures { result ≡ all_in_state state taken }
+{
+    let pages = taken.run.pages;
+    TakenRun {
+        run: PageRun { pages, state },
+        accepted: 0,
+    }
+}
+
+/// Accepts pages that begin the rest of a run, in this and in the runs that follow it.
+fn accept_pages(runs: &mut Vec<TakenRun>, pages: Pages)
+    requires runs { All EndsInMemory runs.old.items }
+    requires pages { 0 < pages.count → pages.first + pages.count < 2 ^ 64 }
+    ensures { runs.new.items ≡ map (accepted_in pages) runs.old.items }
+{
+    for taken in runs.iter_mut() {
+        *taken = with_accepted(*taken, pages);
+    }
+}
+
+/// The run in which these pages are accepted, where they hold the first page of its rest.
+fn with_accepted(taken: TakenRun, pages: Pages) -> TakenRun
+    requires run { EndsInMemory taken }
+    requires pages { 0 < pages.count → pages.first + pages.count < 2 ^ 64 }
+    ensures { result ≡ accepted_in pages taken }
+{
+    let TakenRun { run, accepted } = taken;
+    let first = run.pages.first;
+    let accepted = if pages.holds(Page(first + accepted)) {
+        (first + run.pages.count).min(pages.first + pages.count) - first
+    } else {
+        accepted
+    };
+    TakenRun { run, accepted }
 }

@@ -1,0 +1,36 @@
+use Rattle.std.proofs.Common.{◌≡◌, ◌⊎◌, ◌+◌, ◌^◌, ◌<◌, ◌≤◌, zero, suc, arith, inl, inr, sym, ◌∙◌}
+use Rattle.std.proofs.lemmas.Bool.{cases_lt}
+use Rattle.guest_base.specs.declared.memory.PageState.TheVariants.{Accepted}
+use Rattle.page_module.specs.Spans.{BeginsPending}
+use Rattle.page_module.proofs.SpanLemmas.{runs-fit, runs-all, runs-accepted, becomes-all, becomes-accepted, span-end, pages-same, pages-differ, marks-first, length-map}
+use Rattle.page_module.proofs.span.Span.mark.Goals as goal
+
+pub invariant_of-self : goal.invariant_of-self
+invariant_of-self c =
+    rw c.set_state.ensures (runs-all _ _ _ _ c.self.invariant.0, rw length-map c.self.invariant.1, c.self.invariant.2)
+
+pub accept_pages-requires-clause-runs : goal.accept_pages-requires-clause-runs
+accept_pages-requires-clause-runs c = runs-fit _ _ _ c.self.invariant.0 c.self.invariant.2
+
+pub accept_pages-requires-clause-pages : goal.accept_pages-requires-clause-pages
+accept_pages-requires-clause-pages c some =
+    let m = marks-first c.self.inside.ticket c.self.inside.runs.items c.args.self.now c.args.pages c.self.view_is (sym c.eq.ensures ∙ c.if-eq.false) c.requires in
+    let e = span-end c.self.inside.ticket c.self.inside.runs.items c.args.self.now c.args.pages c.self.invariant.0 c.self.view_is m.1 some in
+    let b = c.self.invariant.2 in
+    omega arith
+
+pub invariant_of-self-else-eq : goal.invariant_of-self-else-eq
+invariant_of-self-else-eq c =
+    rw c.accept_pages.ensures (runs-accepted _ _ _ _ c.self.invariant.0, rw length-map c.self.invariant.1, c.self.invariant.2)
+
+pub returns-then-eq : goal.returns-then-eq
+returns-then-eq c =
+    becomes-all c.args.state c.self.inside.ticket c.self.inside.runs.items c.set_state.new.runs.items c.args.self.now c.args.pages
+    c.self.invariant.0 c.self.view_is (pages-same _ _ (sym c.eq.ensures ∙ c.if-eq.true)) c.set_state.ensures
+
+pub returns-else-eq : goal.returns-else-eq
+returns-else-eq c =
+    let m = marks-first c.self.inside.ticket c.self.inside.runs.items c.args.self.now c.args.pages c.self.view_is (sym c.eq.ensures ∙ c.if-eq.false) c.requires in
+    rw m.0
+    (becomes-accepted c.self.inside.ticket c.self.inside.runs.items c.accept_pages.new.runs.items c.args.self.now c.args.pages
+    c.self.invariant.0 c.self.view_is m.1 c.accept_pages.ensures)

@@ -1,0 +1,147 @@
+//! A port in memory.
+ghost use Rattle.std.specs.Prelude.{◌≡◌, ◌+◌, ◌-◌, ◌<◌, ◌≤◌, ◌⊎◌, [], ◌∷◌, ◌++◌, vec_len, vec_capacity};
+ghost use Rattle.guest_base.specs.Counts.{Rose};
+ghost use Rattle.guest_base.specs.declared.memory.PageState.TheVariants.{Accepted};
+ghost use Rattle.page_module.specs.Spans.{BeginsPending};
+ghost use Rattle.page_module.specs.Modules.{answer_by, AfterCall};
+
+use crate::port::Port;
+use crate::span::Span;
+use event_core::{CallKind, ModuleCall, PortAnswer};
+use guest_base::{Level, Page, PageState, Pages};
+use std::alloc::{AllocError, Global};
+
+/// A port that fails at the calls that it is told to fail at, and does every other.
+#[derive(Debug, Drop)]
+pub struct MemPort {
+    calls: Vec<ModuleCall>,
+    /// The calls that fail, counted from 1.
+    failing: Vec<u64>,
+    faults: u64,
+}
+
+impl MemPort {
+    /// A port that fails at the calls whose numbers are in `failing`, counted from 1; with none of them it
+    /// never fails.
+    pub fn new(alloc: Global, failing: Vec<u64>) -> MemPort
+        ensures made { ⟦<MemPort as Port>⟧.made result ≡ [] }
+        ensures faults { ⟦<MemPort as Port>⟧.faults result ≡ 0 }
+        ensures never_fails { failing.items ≡ [] → ⟦<MemPort as Port>⟧.never_fails result }
+    {
+        MemPort {
+            calls: Vec::new(alloc),
+            failing,
+            faults: 0,
+        }
+    }
+
+    /// The answer to the next call, where `honest` is the answer without a fault.
+    fn answer(&mut self, honest: PortAnswer) -> PortAnswer
+        ensures answer { (result ≡ PortAnswer.Failed) ⊎ (result ≡ honest) }
+        ensures failed { result ≡ PortAnswer.Failed → honest ≡ PortAnswer.Failed ⊎ Rose self.old.faults self.new.faults }
+        ensures faults_kept { self.old.faults ≤ self.new.faults }
+        ensures never { self.old.failing.items ≡ [] → self.new.faults ≡ self.old.faults }
+        ensures rest { self.new ≡ record self.old { faults = self.new.faults } }
+    {
+        let number = self.calls.len() as u64 + 1;
+        if self.failing.as_slice().contains(&number) {
+            self.faults = self.faults.saturating_add(1);
+            PortAnswer::Failed
+        } else {
+            honest
+        }
+    }
+
+    /// Records a call.
+    fn note(&mut self, kind: CallKind, pages: Pages, level: Level, answer: PortAnswer)
+        requires { vec_len self.old.calls < vec_capacity self.old.calls }
+        ensures calls { self.new.calls.items ≡ self.old.calls.items ++ record { kind = kind; first = pages.first; count = pages.count; level = level; answer = answer } ∷ [] }
+        ensures len { vec_len self.new.calls ≡ vec_len self.old.calls + 1 }
+        ensures capacity { vec_capacity self.old.calls ≤ vec_capacity self.new.calls }
+        ensures faults { self.new.faults ≡ self.old.faults }
+        ensures failing { self.new.failing ≡ self.old.failing }
+    {
+        let call = ModuleCall {
+            kind,
+            first: pages.first,
+            count: pages.count,
+            level,
+            answer,
+        };
+        push_within(&mut self.calls, call);
+    }
+}
+
+/// The answer to an accept call of `level` that doesn't fail, where the host has mapped at `host`.
+fn answer_without_fault(level: Level, host: Level) -> PortAnswer
+    ensures { result ≡ answer_by level host }
+{
+    if host.pages() < level.pages() {
+        PortAnswer::SizeMismatch
+    } else {
+        PortAnswer::Ok
+    }
+}
+
+/// Gives these pages of the span a state, where the answer is Ok.
+fn mark_if_done(span: &mut Span, pages: Pages, state: PageState, answer: PortAnswer)
+    requires { (pages ≡ span.old.ticket.pages) ⊎ ((state ≡ Accepted) × BeginsPending span.old pages.first pages.count) }
+    ensures { AfterCall state span.old span.new pages.first pages.count answer }
+{
+    if answer == PortAnswer::Ok {
+        span.mark(pages, state);
+    }
+}
+
+/// Adds a call at the end.
+fn push_within(calls: &mut Vec<ModuleCall>, call: ModuleCall)
+    requires { vec_len calls.old < vec_capacity calls.old }
+    ensures items { calls.new.items ≡ calls.old.items ++ call ∷ [] }
+    ensures len { vec_len calls.new ≡ vec_len calls.old + 1 }
+    ensures capacity { vec_capacity calls.old ≤ vec_capacity calls.new }
+{
+    let _ = calls.push(call);
+}
+
+impl Port for MemPort {
+    ghost made = { λ p. p.calls.items };
+
+    ghost faults = { λ p. p.faults };
+
+    ghost room = { λ p. vec_capacity p.calls - vec_len p.calls };
+
+    ghost never_fails = { λ p. (p.failing.items ≡ []) × (p.faults ≡ 0) };
+
+    ghost no_fault = { λ p h. h.1 };
+
+    fn reserve(&mut self, _alloc: Global, calls: u64) -> Result<(), AllocError> {
+        self.calls.reserve(calls as usize)
+    }
+
+    fn accept(&mut self, span: &mut Span, at: Page, level: Level, host: Level) -> PortAnswer {
+        let pages = Pages {
+            first: at.0,
+            count: level.pages(),
+        };
+        let answer = self.answer(answer_without_fault(level, host));
+        mark_if_done(span, pages, PageState::Accepted, answer);
+        self.note(CallKind::Accept, pages, level, answer);
+        answer
+    }
+
+    fn share(&mut self, span: &mut Span) -> PortAnswer {
+        let pages = span.pages();
+        let answer = self.answer(PortAnswer::Ok);
+        mark_if_done(span, pages, PageState::Shared, answer);
+        self.note(CallKind::Share, pages, Level::Small, answer);
+        answer
+    }
+
+    fn unshare(&mut self, span: &mut Span) -> PortAnswer {
+        let pages = span.pages();
+        let answer = self.answer(PortAnswer::Ok);
+        mark_if_done(span, pages, PageState::Pending, answer);
+        self.note(CallKind::Unshare, pages, Level::Small, answer);
+        answer
+    }
+}
