@@ -18,3 +18,4 @@ pub mod Stub
 pub mod Texts
 pub mod Turns
 pub mod Units
+pub mod Texts
