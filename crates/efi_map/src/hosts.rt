@@ -1,0 +1,109 @@
+//! The host records of a map file.
+ghost use Rattle.std.specs.Prelude.{◌≡◌, ◌≤◌, [], length};
+ghost use Rattle.std.specs.List.{list_any};
+ghost use Rattle.efi_map.specs.MapFile.{Gives, level_of, are_pages, host_record, hosts_meet, host_at, hosts_at, all_hosts_at};
+
+use crate::fault::MapFault;
+use crate::fields::count;
+use byteorder::{ByteOrder, LittleEndian};
+use guest_base::{HostRun, Level, Pages};
+use std::alloc::Global;
+
+/// The bytes of a host record.
+const RECORD: usize = 20;
+
+fn level(number: u32) -> Option<Level>
+    ensures { result ≡ level_of number }
+{
+    match number {
+        0 => Some(Level::Small),
+        1 => Some(Level::Large),
+        2 => Some(Level::Huge),
+        _ => None,
+    }
+}
+
+/// Whether these bytes are whole pages, and lie below 2^40.
+fn are_pages(start: u64, len: u64) -> bool
+    ensures { result ≡ are_pages start len }
+{
+    start % 4096 == 0
+        && len % 4096 == 0
+        && len > 0
+        && u128::from(start) + u128::from(len) <= 1 << 40
+}
+
+#[tactic(auto, unfolding(crate::specs::MapFile::host_record))]
+fn record(start: u64, len: u64, number: u32) -> Option<HostRun>
+    ensures { result ≡ host_record start len number }
+{
+    if !are_pages(start, len) {
+        return None;
+    }
+    let pages = Pages {
+        first: start / 4096,
+        count: len / 4096,
+    };
+    level(number).map(|level| HostRun { pages, level })
+}
+
+/// Whether two host records have a page in common.
+fn meet(a: HostRun, b: HostRun) -> bool
+    ensures { result ≡ hosts_meet a b }
+{
+    let end = |pages: Pages| u128::from(pages.first) + u128::from(pages.count);
+    u128::from(a.pages.first.max(b.pages.first)) < end(a.pages).min(end(b.pages))
+}
+
+/// Whether a host record has a page in common with one of these.
+fn meets_one(before: &[HostRun], run: HostRun) -> bool
+    ensures { result ≡ list_any (hosts_meet run) before.now }
+{
+    before.iter().any(|earlier| meet(run, *earlier))
+}
+
+#[tactic(auto, unfolding(crate::specs::MapFile::host_at, crate::specs::MapFile::number))]
+fn host<'a>(size: u64, before: &[HostRun], bytes: &'a [u8]) -> Result<(HostRun, &'a [u8]), MapFault>
+    requires { length before.now ≤ 4096 }
+    ensures { Gives (λ x. (x.0, x.1.now)) result (host_at size before.now bytes.now) }
+{
+    if bytes.len() < RECORD {
+        return Err(MapFault::Short(size));
+    }
+    let start = LittleEndian::read_u64(bytes);
+    let len = LittleEndian::read_u64(&bytes[8..]);
+    let number = LittleEndian::read_u32(&bytes[16..]);
+    match record(start, len, number) {
+        Some(run) if !meets_one(before, run) => Ok((run, &bytes[RECORD..])),
+        _ => Err(MapFault::BadHost(before.len() as u32)),
+    }
+}
+
+/// The next `count` host records, and the bytes behind them.
+fn hosts(
+    alloc: Global,
+    size: u64,
+    count: u32,
+    bytes: &[u8],
+) -> Result<(Vec<HostRun>, &[u8]), MapFault>
+    requires { count ≤ 4096 }
+    ensures { Gives (λ x. (x.0.items, x.1.now)) result (hosts_at size count [] bytes.now) }
+{
+    let mut found = Vec::new(alloc);
+    let mut rest = bytes;
+    for _ in 0..count {
+        let (next, after) = host(size, &found, rest)?;
+        found.push(next)?;
+        rest = after;
+    }
+    Ok((found, rest))
+}
+
+/// All host records of a file, and the bytes behind them.
+#[tactic(auto, unfolding(crate::specs::MapFile::all_hosts_at))]
+pub fn all_hosts(alloc: Global, size: u64, bytes: &[u8]) -> Result<(Vec<HostRun>, &[u8]), MapFault>
+    ensures { Gives (λ x. (x.0.items, x.1.now)) result (all_hosts_at size bytes.now) }
+{
+    let (count, rest) = count(size, bytes)?;
+    hosts(alloc, size, count, rest)
+}

@@ -1,0 +1,13 @@
+//! The map file: a guest's memory descriptors and the levels at which its host has mapped pages.
+#![tactic(auto)]
+
+mod descriptors;
+mod fault;
+mod fields;
+mod hosts;
+mod map;
+mod reading;
+
+pub use fault::MapFault;
+pub use map::GuestMap;
+pub use reading::read_map;
