@@ -1,5 +1,5 @@
-use Rattle.std.proofs.Common.{◌≡◌, ℕ, zero, suc, ◌+◌, ◌-◌, ◌<◌, ◌≤◌, Bool, true, false, None, Some, refl, sym, ◌∙◌, ap, inl, inr, arith}
-use Rattle.std.specs.Prelude.{is_some}
+use Rattle.std.proofs.Common.{◌≡◌, ℕ, zero, suc, ◌+◌, ◌-◌, ◌<◌, ◌≤◌, min, Bool, true, false, None, Some, refl, sym, ◌∙◌, ap, inl, inr, arith}
+use Rattle.std.specs.Prelude.{is_some, Option, ◌⊎◌}
 use Rattle.std.proofs.lemmas.Bool.{cases_Bool, cases_lt}
 use Rattle.guest_base.specs.Search.{first_such, each_such, any_such, count_such, row_length}
 
@@ -384,3 +384,47 @@ count_such_same test other from (suc count) h =
       | inl t ↦ omega (arith, count_such-pass test from count t, count_such-pass other from count (sym at ∙ t), rest)
       | inr f ↦ omega (arith, count_such-fail test from count f, count_such-fail other from count (sym at ∙ f), rest)
     ]
+
+-- ---- a loop that has reached its end
+
+pub first_such_end : (test : ℕ → Bool) (at end : ℕ) → end ≤ at → first_such test at (end - at) ≡ None
+first_such_end test at end h = let e : end - at ≡ 0 = omega arith in ap (first_such test at) e ∙ first_such-zero test at
+
+pub row_length_end : (test : ℕ → Bool) (at end : ℕ) → end ≤ at → row_length test at (end - at) ≡ 0
+row_length_end test at end h = let e : end - at ≡ 0 = omega arith in ap (row_length test at) e ∙ row_length-zero test at
+
+-- ---- a search that is cut off where nothing passes any more
+
+cases_Option : (o : Option ℕ) → (o ≡ None) ⊎ ((n : ℕ) × (o ≡ Some n))
+cases_Option None = inl refl
+cases_Option (Some n) = inr (n, refl)
+
+pub first_such_clip : (test : ℕ → Bool) (from end limit : ℕ) → ((n : ℕ) → limit ≤ n → test n ≡ false) → first_such test from (min end limit - from) ≡ first_such test from (end - from)
+first_such_clip test from end limit above =
+    elim (cases_Option (first_such test from (end - from))) [
+      inl e ↦
+        (let none = first_such-None test from (end - from) e in
+        first_such_none test from (min end limit - from) (record { fails = λ n low high. none.fails n low (omega arith) }) ∙ sym e)
+      | inr (found, e) ↦
+        (let first = first_such-Some test from (end - from) found e in
+        elim (cases_lt found limit) [
+          inl lt ↦
+            (let low : from ≤ found = first.low in
+            let high : found < from + (end - from) = first.high in
+            first_such_is test from (min end limit - from) found (record { low = low; high = omega arith; passes = first.passes; before = first.before }) ∙ sym e)
+          | inr le ↦ (let no : true ≡ false = sym first.passes ∙ above found le in cc)
+        ])
+    ]
+
+pub row_length_clip : (test : ℕ → Bool) (from end limit : ℕ) → ((n : ℕ) → limit ≤ n → test n ≡ false) → row_length test from (min end limit - from) ≡ row_length test from (end - from)
+row_length_clip test from end limit above =
+    let short = min end limit - from in
+    let length = row_length test from short in
+    let le : length ≤ short = row_length-le test from short in
+    sym
+    (row_length_is test from (end - from) length (row_length-pass_each test from short) (omega arith)
+    (λ lt.
+    elim (cases_lt length short) [
+      inl inside ↦ row_length-ends test from short inside
+      | inr whole ↦ above (from + length) (omega arith)
+    ]))
