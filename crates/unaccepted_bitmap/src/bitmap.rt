@@ -1,0 +1,135 @@
+//! A bitmap of unaccepted units.
+ghost use Rattle.std.specs.Prelude.{◌≡◌, ℕ, ◌+◌, ◌*◌, ◌^◌, ◌<◌, ◌≤◌, IfOk};
+ghost use Rattle.event_core.specs.Units.{unit_count, bit_of, units_between, with_guard, first_run};
+ghost use Rattle.unaccepted_bitmap.specs.BitmapValue.{Bits, IsBitmap, ClearsBits, guarded_in, any_unit};
+
+use crate::bytes::{clear_units, run_of_set};
+use guest_base::{Bytes, Unit, Units};
+use std::alloc::{AllocError, Global};
+use std::marker::Model;
+
+/// Which units of memory are unaccepted: bit k mod 8 of byte k / 8 stands for the unit k, counted from the base.
+/// A unit outside the bitmap counts as accepted.
+#[derive(Debug, Drop)]
+pub struct Bitmap {
+    unit: u64,
+    base: u64,
+    bits: Vec<u8>,
+}
+
+impl Model for Bitmap {
+    ghost use Rattle.unaccepted_bitmap.specs.BitmapValue.{Bits, IsBitmap};
+
+    ghost Value = { Bits };
+
+    ghost view = { λ a. record { unit = a.unit; base = a.base; bits = a.bits.items } };
+
+    ghost invariant = { λ a. IsBitmap (record { unit = a.unit; base = a.base; bits = a.bits.items }) };
+}
+
+impl Bitmap {
+    /// The bytes of a unit.
+    pub fn unit(&self) -> u64
+        ensures value { result ≡ self.now.unit }
+        ensures kept { IsBitmap self.now }
+    {
+        self.unit
+    }
+
+    /// The address of the first unit, in bytes.
+    pub fn base(&self) -> u64
+        ensures value { result ≡ self.now.base }
+        ensures kept { IsBitmap self.now }
+    {
+        self.base
+    }
+
+    /// The number of units.
+    pub fn unit_count(&self) -> u64
+        ensures value { result ≡ unit_count self.now.bits }
+        ensures kept { IsBitmap self.now }
+    {
+        self.bits.len() as u64 * 8
+    }
+
+    /// A copy of the bytes.
+    pub fn copy_bytes(&self, alloc: Global) -> Result<Bytes, AllocError>
+        ensures { IfOk result (λ bytes. bytes ≡ self.now.bits) }
+    {
+        Ok(Bytes::from_vec(Vec::from_slice(alloc, self.bits.as_slice())?))
+    }
+
+    /// The units that an acceptance of the `len` bytes from the address `start` on takes, the guard among them: where the range
+    /// ends on a unit's border, the unit behind it too, since a load at the last bytes may stray into it. What lies outside the
+    /// bitmap is left out. None exactly where no unit is left (after Linux's `accept_memory`).
+    pub fn claim_units(&self, start: u64, len: u64) -> Option<Units>
+        requires some { 1 ≤ len }
+        requires end { start + len ≤ 2 ^ 40 }
+        ensures { result ≡ guarded_in self.now start len }
+    {
+        let end = start + len;
+        if end < self.base {
+            return None;
+        }
+        let guarded_end = end_with_guard(self.unit, end - self.base);
+        let bitmap_end = self.unit_count() * self.unit;
+        units_of(
+            self.unit,
+            start.max(self.base) - self.base,
+            guarded_end.min(bitmap_end),
+        )
+    }
+
+    /// Whether one of the range's guarded units is unaccepted.
+    pub fn contains(&self, start: u64, len: u64) -> bool
+        requires some { 1 ≤ len }
+        requires end { start + len ≤ 2 ^ 40 }
+        ensures { result ≡ any_unit (bit_of self.now.bits) (guarded_in self.now start len) }
+    {
+        match self.claim_units(start, len) {
+            Some(units) => self
+                .next_run(Unit(units.first), Unit(units.first + units.count))
+                .is_some(),
+            None => false,
+        }
+    }
+
+    /// The first maximal run of unaccepted units from `from` on and below `to`, clipped to these.
+    pub fn next_run(&self, from: Unit, to: Unit) -> Option<Units>
+        ensures { result ≡ first_run (bit_of self.now.bits) from.0 to.0 }
+    {
+        run_of_set(self.bits.as_slice(), from.0, to.0)
+    }
+
+    /// Marks these units as accepted.
+    pub fn clear(&mut self, units: Units)
+        requires { units.first + units.count ≤ unit_count self.old.bits }
+        ensures unit { self.new.unit ≡ self.old.unit }
+        ensures base { self.new.base ≡ self.old.base }
+        ensures bits { ClearsBits self.old.bits self.new.bits units }
+    {
+        clear_units(&mut self.bits, units);
+    }
+}
+
+fn end_with_guard(unit: u64, end: u64) -> u64
+    requires some { 0 < unit }
+    requires room { end + unit < 2 ^ 64 }
+    ensures { result ≡ with_guard unit end }
+{
+    if end % unit == 0 { end + unit } else { end }
+}
+
+fn units_of(unit: u64, start: u64, end: u64) -> Option<Units>
+    requires { 0 < unit }
+    ensures { result ≡ units_between unit start end }
+{
+    if start >= end {
+        return None;
+    }
+    let first = start / unit;
+    Some(Units {
+        first,
+        count: end.div_ceil(unit) - first,
+    })
+}

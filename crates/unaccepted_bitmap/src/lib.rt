@@ -1,0 +1,7 @@
+//! The bitmap of unaccepted units: what the boot stub makes of a memory map, the guarded units of a range, and runs of set bits.
+#![tactic(auto)]
+
+mod bitmap;
+mod bytes;
+
+pub use bitmap::Bitmap;
