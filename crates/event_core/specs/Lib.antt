@@ -18,4 +18,3 @@ pub mod Stub
 pub mod Texts
 pub mod Turns
 pub mod Units
-pub mod Texts

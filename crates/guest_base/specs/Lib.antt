@@ -5,4 +5,3 @@ pub mod Ranges
 pub mod Requests
 pub mod Search
 pub mod Slots
-pub mod Counts
