@@ -1,2 +1,3 @@
 pub mod Tests
 pub mod SpanLemmas
+pub mod ScanLemmas

@@ -116,10 +116,10 @@ may-mark-tail pages first t rs f a m =
       maximal = λ page b e. rw (sym (state-tail t rs page (omega arith) a)) (m.maximal page (omega arith) e);
     }
 
-state-first : (t : TakenRun) (page : ℕ) → t.run.pages.first ≤ page → page < rest_first t → state_here t page ≡ Accepted
+pub state-first : (t : TakenRun) (page : ℕ) → t.run.pages.first ≤ page → page < rest_first t → state_here t page ≡ Accepted
 state-first t page b c = rw (in_range-within t.run.pages.first t.accepted page b c) refl
 
-state-rest : (t : TakenRun) (page : ℕ) → rest_first t ≤ page → state_here t page ≡ t.run.state
+pub state-rest : (t : TakenRun) (page : ℕ) → rest_first t ≤ page → state_here t page ≡ t.run.state
 state-rest t page b = rw (in_range-past t.run.pages.first t.accepted page b) refl
 
 -- where the range doesn't hold the first page of the rest, nothing changes, so that its pages have to be accepted already

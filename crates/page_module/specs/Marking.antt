@@ -1,5 +1,5 @@
 -- What becomes of the runs of a span.
-use Rattle.std.specs.Prelude.{◌≡◌, ◌≢◌, ℕ, ◌+◌, ◌-◌, ◌^◌, ◌≤◌, ◌<◌, List, Option, None, Some, min, true, if◌then◌else◌}
+use Rattle.std.specs.Prelude.{◌≡◌, ◌≢◌, ℕ, ◌+◌, ◌-◌, ◌^◌, ◌≤◌, ◌<◌, List, [], ◌∷◌, Option, None, Some, min, max, nat_lt, not, Bool, true, false, if◌then◌else◌}
 use Rattle.guest_base.specs.Ranges.{in_range}
 use Rattle.guest_base.specs.declared.memory.Pages.{Pages}
 use Rattle.guest_base.specs.declared.memory.PageRun.{PageRun}
@@ -43,3 +43,36 @@ NonePending span from = (page : ℕ) → from ≤ page → state_in span.runs pa
 -- a taken run that ends within memory, of which no more pages were accepted than it has
 abbrev pub EndsInMemory : TakenRun → Type 0
 EndsInMemory taken = (taken.accepted ≤ taken.run.pages.count) × (taken.run.pages.first + taken.run.pages.count ≤ 2 ^ 28)
+
+-- whether a state is Pending
+abbrev pub is_pending : PageState → Bool
+is_pending Pending = true
+is_pending Accepted = false
+is_pending Shared = false
+
+-- whether a page has a state that is Pending, or one that isn't
+abbrev pub hits : Bool → Option PageState → Bool
+hits pending None = false
+hits pending (Some state) = if pending then is_pending state else not (is_pending state)
+
+-- the first number of a range at or after a number
+abbrev pub first_from : ℕ → ℕ → ℕ → Option ℕ
+first_from first count from = if nat_lt (max first from) (first + count) then Some (max first from) else None
+
+-- the first page at or after a page, in the part of a taken run that was accepted since, and in the rest
+abbrev pub first_in_accepted : Bool → ℕ → TakenRun → Option ℕ
+first_in_accepted pending from taken = if pending then None else first_from taken.run.pages.first taken.accepted from
+
+abbrev pub first_in_rest : Bool → ℕ → TakenRun → Option ℕ
+first_in_rest pending from taken =
+    if hits pending (Some taken.run.state) then first_from (rest_first taken) (taken.run.pages.count - taken.accepted) from else None
+
+abbrev pub first_in : Bool → ℕ → TakenRun → Option ℕ
+first_in pending from taken =
+    elim (first_in_accepted pending from taken) as (λ _. Option ℕ) [ Some page ↦ Some page | None ↦ first_in_rest pending from taken ]
+
+-- the same in the first taken run that has such a page
+abbrev pub first_page : Bool → ℕ → List TakenRun → Option ℕ
+first_page pending from [] = None
+first_page pending from (taken ∷ rest) =
+    elim (first_in pending from taken) as (λ _. Option ℕ) [ Some page ↦ Some page | None ↦ first_page pending from rest ]

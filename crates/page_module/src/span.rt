@@ -61,6 +61,21 @@ impl Span {
         unreachable!()
     }
 
+    /// The first maximal run of Pending pages among the pages at or after `from`. None exactly where none of
+    /// them is Pending.
+    pub fn next_pending(&self, from: Page) -> Option<Pages>
+        ensures some { IfSome result (IsFirstPending self.now from.0) }
+        ensures none { IfNone result (NonePending self.now from.0) }
+    {
+        let first = first_page_of(&self.runs, true, from.0)?;
+        let last = self.ticket.pages.first + self.ticket.pages.count;
+        let end = first_page_of(&self.runs, false, first).unwrap_or(last);
+        Some(Pages {
+            first,
+            count: end - first,
+        })
+    }
+
     /// Gives pages a state: the whole span any, or the first pages of a maximal run of Pending pages the
     /// state Accepted.
     pub fn mark(&mut self, pages: Pages, state: PageState)
@@ -76,6 +91,8 @@ impl Span {
 }
 
 impl TakenRun {
+    ghost use Rattle.page_module.specs.Marking.{first_in, first_in_accepted, first_in_rest, first_from, EndsInMemory};
+
     /// The state of one of its pages.
     fn state_of(&self, page: Page) -> PageState
         ensures { result ≡ (if in_range self.now.run.pages.first self.now.accepted page.0 then Accepted else self.now.run.state) }
@@ -90,9 +107,74 @@ impl TakenRun {
             self.run.state
         }
     }
+
+    /// The first of its pages at or after `from` that is Pending, or that isn't.
+    fn first_in(&self, is_pending: bool, from: u64) -> Option<u64>
+        requires { EndsInMemory self.now }
+        ensures { result ≡ first_in is_pending from self.now }
+    {
+        match self.first_in_accepted(is_pending, from) {
+            Some(page) => Some(page),
+            None => self.first_in_rest(is_pending, from),
+        }
+    }
+
+    fn first_in_accepted(&self, is_pending: bool, from: u64) -> Option<u64>
+        requires { EndsInMemory self.now }
+        ensures { result ≡ first_in_accepted is_pending from self.now }
+    {
+        if is_pending {
+            None
+        } else {
+            first_at(self.run.pages.first, self.accepted, from)
+        }
+    }
+
+    fn first_in_rest(&self, is_pending: bool, from: u64) -> Option<u64>
+        requires { EndsInMemory self.now }
+        ensures { result ≡ first_in_rest is_pending from self.now }
+    {
+        if (self.run.state == PageState::Pending) == is_pending {
+            first_at(
+                self.run.pages.first + self.accepted,
+                self.run.pages.count - self.accepted,
+                from,
+            )
+        } else {
+            None
+        }
+    }
 }
 
-ghost use Rattle.page_module.specs.Marking.{all_in_state, accepted_in, rest_first, EndsInMemory};
+ghost use Rattle.page_module.specs.Marking.{first_from};
+
+/// The first of `count` numbers from `first` on that is at or after `from`.
+fn first_at(first: u64, count: u64, from: u64) -> Option<u64>
+    requires { first + count < 2 ^ 64 }
+    ensures { result ≡ first_from first count from }
+{
+    let page = first.max(from);
+    if page < first + count {
+        Some(page)
+    } else {
+        None
+    }
+}
+
+ghost use Rattle.page_module.specs.Marking.{all_in_state, accepted_in, first_page, EndsInMemory};
+
+/// The first page at or after `from` that is Pending, or that isn't.
+fn first_page_of(runs: &Vec<TakenRun>, pending: bool, from: u64) -> Option<u64>
+    requires { All EndsInMemory runs.now.items }
+    ensures { result ≡ first_page pending from runs.now.items }
+{
+    for taken in runs {
+        if let Some(page) = taken.first_in(pending, from) {
+            return Some(page);
+        }
+    }
+    None
+}
 
 /// Gives every page a state.
 fn set_state(runs: &mut Vec<TakenRun>, state: PageState)
