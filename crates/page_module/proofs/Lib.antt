@@ -1,3 +1,4 @@
 pub mod Tests
 pub mod SpanLemmas
 pub mod ScanLemmas
+pub mod SpanWithin

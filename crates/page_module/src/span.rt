@@ -1,5 +1,5 @@
 //! Spans of pages.
-ghost use Rattle.std.specs.Prelude.{◌≡◌, ◌⊎◌, ◌+◌, ◌≤◌, ◌<◌, ◌^◌, map, All, true, length, Option, Some, None, IfSome, IfNone, if◌then◌else◌};
+ghost use Rattle.std.specs.Prelude.{◌≡◌, ◌≢◌, ℕ, ◌⊎◌, ◌+◌, ◌≤◌, ◌<◌, ◌^◌, map, All, true, length, Option, Some, None, IfSome, IfNone, if◌then◌else◌};
 ghost use Rattle.guest_base.specs.Ranges.{in_range};
 ghost use Rattle.guest_base.specs.declared.memory.PageState.TheVariants.{Accepted};
 
@@ -41,9 +41,11 @@ impl Span {
     ghost use Rattle.page_module.specs.Spans.{BeginsPending, Becomes};
     ghost use Rattle.page_module.specs.Marking.{IsFirstPending, NonePending};
 
-    /// The span's pages.
+    /// The span's pages. No other page has a state in it, and none lies at or above 2^28.
     pub fn pages(&self) -> Pages
-        ensures { result ≡ self.now.ticket.pages }
+        ensures value { result ≡ self.now.ticket.pages }
+        ensures below { 0 < result.count → result.first + result.count ≤ 2 ^ 28 }
+        ensures within { (page : ℕ) → state_in self.now.runs page ≢ None → in_range result.first result.count page ≡ true }
     {
         self.ticket.pages
     }

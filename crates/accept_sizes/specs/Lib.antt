@@ -1,0 +1,5 @@
+pub mod Logged
+pub mod Room
+pub mod Accepts
+pub mod Ends
+pub mod Trying
