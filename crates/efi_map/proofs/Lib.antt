@@ -1,3 +1,6 @@
-pub mod Steps
+pub mod Again
+pub mod Joining
 pub mod Loop
+pub mod RamOf
 pub mod Rules
+pub mod Steps

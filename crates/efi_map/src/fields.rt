@@ -6,7 +6,7 @@ use crate::fault::MapFault;
 use byteorder::{ByteOrder, LittleEndian};
 
 /// The bytes `GMAP`, as a number.
-const MAGIC: u32 = 0x50414d47;
+pub const MAGIC: u32 = 0x50414d47;
 
 #[tactic(auto, unfolding(crate::specs::MapFile::number))]
 fn word(size: u64, bytes: &[u8]) -> Result<(u32, &[u8]), MapFault>

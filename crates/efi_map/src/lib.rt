@@ -6,8 +6,14 @@ mod fault;
 mod fields;
 mod hosts;
 mod map;
+mod ram;
 mod reading;
+mod writing;
 
 pub use fault::MapFault;
 pub use map::GuestMap;
 pub use reading::read_map;
+pub use writing::write_map;
+
+#[cfg(test)]
+mod tests;

@@ -402,18 +402,18 @@ cases_Option (Some n) = inr (n, refl)
 pub first_such_clip : (test : ℕ → Bool) (from end limit : ℕ) → ((n : ℕ) → limit ≤ n → test n ≡ false) → first_such test from (min end limit - from) ≡ first_such test from (end - from)
 first_such_clip test from end limit above =
     elim (cases_Option (first_such test from (end - from))) [
-      inl e ↦
-        (let none = first_such-None test from (end - from) e in
-        first_such_none test from (min end limit - from) (record { fails = λ n low high. none.fails n low (omega arith) }) ∙ sym e)
+      | inl e ↦
+          (let none = first_such-None test from (end - from) e in
+          first_such_none test from (min end limit - from) (record { fails = λ n low high. none.fails n low (omega arith) }) ∙ sym e)
       | inr (found, e) ↦
-        (let first = first_such-Some test from (end - from) found e in
-        elim (cases_lt found limit) [
-          inl lt ↦
-            (let low : from ≤ found = first.low in
-            let high : found < from + (end - from) = first.high in
-            first_such_is test from (min end limit - from) found (record { low = low; high = omega arith; passes = first.passes; before = first.before }) ∙ sym e)
-          | inr le ↦ (let no : true ≡ false = sym first.passes ∙ above found le in cc)
-        ])
+          (let first = first_such-Some test from (end - from) found e in
+          elim (cases_lt found limit) [
+            | inl lt ↦
+                (let low : from ≤ found = first.low in
+                let high : found < from + (end - from) = first.high in
+                first_such_is test from (min end limit - from) found (record { low = low; high = omega arith; passes = first.passes; before = first.before }) ∙ sym e)
+            | inr le ↦ (let no : true ≡ false = sym first.passes ∙ above found le in cc)
+          ])
     ]
 
 pub row_length_clip : (test : ℕ → Bool) (from end limit : ℕ) → ((n : ℕ) → limit ≤ n → test n ≡ false) → row_length test from (min end limit - from) ≡ row_length test from (end - from)
@@ -425,6 +425,6 @@ row_length_clip test from end limit above =
     (row_length_is test from (end - from) length (row_length-pass_each test from short) (omega arith)
     (λ lt.
     elim (cases_lt length short) [
-      inl inside ↦ row_length-ends test from short inside
+      | inl inside ↦ row_length-ends test from short inside
       | inr whole ↦ above (from + length) (omega arith)
     ]))

@@ -1,7 +1,7 @@
 -- How counts go over several steps.
 use Rattle.std.proofs.Common.{◌≡◌, ℕ, ◌≤◌, inl, inr, sym, ◌∙◌, arith}
 use Rattle.std.proofs.Math.Nat.{eq-or-lt_of_le}
-use Rattle.guest_io.specs.Counts.{Rose}
+use Rattle.guest_base.specs.Counts.{Rose}
 
 -- a count that rose and then didn't fall rose over both steps
 pub Rose-then : (old middle new : ℕ) → old ≤ middle → Rose old middle → middle ≤ new → Rose old new

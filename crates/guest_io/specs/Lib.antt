@@ -1,4 +1,3 @@
-pub mod Counts
 pub mod Failing
 pub mod MemFiles
 pub mod MemSink

@@ -5,7 +5,7 @@ use Rattle.std.specs.Str.{bytes_eq}
 use Rattle.std.specs.declared.alloc.Global.{Global}
 use Rattle.guest_io.specs.declared.files.ReadFault.{ReadFault}
 use Rattle.guest_io.specs.declared.files.ReadFault.TheVariants.{Failed, NoMemory}
-use Rattle.guest_io.specs.Counts.{raised_by}
+use Rattle.guest_base.specs.Counts.{raised_by}
 
 -- the count of faults after an answer: one more where the outside failed (own rule)
 abbrev pub faults_after : {B : Type 0} → Result B ReadFault → ℕ → ℕ

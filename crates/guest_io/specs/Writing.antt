@@ -2,7 +2,7 @@
 use Rattle.std.specs.Prelude.{◌≡◌, ℕ, List, ◌++◌, take, Option, Some, None, Result, Err}
 use Rattle.guest_io.specs.declared.sink.PutFault.{PutFault}
 use Rattle.guest_io.specs.declared.sink.PutFault.TheVariants.{Failed}
-use Rattle.guest_io.specs.Counts.{raised_by}
+use Rattle.guest_base.specs.Counts.{raised_by}
 
 -- what was written, with these bytes at its end; where it isn't told it stays untold (own rule)
 abbrev pub appended : Option (List ℕ) → List ℕ → Option (List ℕ)

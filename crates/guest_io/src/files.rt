@@ -1,5 +1,5 @@
 ghost use Rattle.std.specs.Prelude.{◌≡◌, ℕ, List, Option, Some, None, ◌<◌, ◌≤◌, length, IfOk, IsErrOf, ◌⊎◌};
-ghost use Rattle.guest_io.specs.Counts.{Rose, RoseByMoreThan};
+ghost use Rattle.guest_base.specs.Counts.{Rose, RoseByMoreThan};
 ghost use Rattle.guest_io.specs.Reading.{AsksFor};
 ghost use Rattle.guest_io.specs.declared.files.ReadFault.TheVariants.{NoMemory};
 

@@ -1,10 +1,7 @@
-ghost use Rattle.std.specs.Prelude.{◌≡◌, ◌≢◌, ℕ, ◌+◌, List, [], ◌∷◌, ◌++◌, Some, ◌<◌, ◌≤◌, length, true, if◌then◌else◌, IfOk, IsErrOf, ◌⊎◌};
-ghost use Rattle.guest_io.specs.Counts.{raised_by};
-ghost use Rattle.guest_io.specs.Failing.{fails_at};
-ghost use Rattle.guest_io.specs.Reading.{AsksFor, content_of};
-ghost use Rattle.std.specs.Prelude.{find, string_bytes};
+ghost use Rattle.std.specs.Prelude.{◌≡◌, ℕ, List, [], Some, find, string_bytes};
 ghost use Rattle.std.specs.Option.{option_copied};
 ghost use Rattle.std.specs.Str.{bytes_eq};
+ghost use Rattle.guest_io.specs.Reading.{content_of};
 
 use crate::files::{Files, ReadFault};
 use crate::numbered::NumberedCalls;
@@ -62,8 +59,8 @@ fn find_content<'a>(files: &'a [(String, Vec<u8>)], name: &str) -> &'a [u8]
 }
 
 impl Files for MemFiles {
-    ghost use Rattle.std.specs.Prelude.{◌≡◌, ℕ, ◌+◌, List, Some, ◌<◌, ◌≤◌, length, true, if◌then◌else◌, IfOk, IsErrOf, ◌⊎◌, is_ok};
-    ghost use Rattle.guest_io.specs.Counts.{raised_by};
+    ghost use Rattle.std.specs.Prelude.{◌≡◌, ◌+◌, Some, ◌<◌, ◌≤◌, length, true, if◌then◌else◌, IfOk, IsErrOf, ◌⊎◌, is_ok};
+    ghost use Rattle.guest_base.specs.Counts.{raised_by};
     ghost use Rattle.guest_io.specs.Failing.{fails_at};
     ghost use Rattle.guest_io.specs.Reading.{AsksFor};
     ghost use Rattle.guest_io.specs.MemFiles.{content_in, told, names_asked, faults_of, bytes_of, failing_of, calls_of, NeverFails};

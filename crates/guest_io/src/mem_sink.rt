@@ -40,7 +40,7 @@ impl MemSink {
 impl Sink for MemSink {
     ghost use Rattle.std.specs.Prelude.{◌≡◌, ◌+◌, ◌≤◌, ◌↔◌, true, if◌then◌else◌, OnOk, OnErr, IsErrOf};
     ghost use Rattle.guest_io.specs.Writing.{appended};
-    ghost use Rattle.guest_io.specs.Counts.{raised_by};
+    ghost use Rattle.guest_base.specs.Counts.{raised_by};
     ghost use Rattle.guest_io.specs.Failing.{fails_at};
     ghost use Rattle.guest_io.specs.MemSink.{written_in, faults_of, failing_of, calls_of, NeverFails};
 

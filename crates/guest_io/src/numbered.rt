@@ -1,5 +1,5 @@
 ghost use Rattle.std.specs.Prelude.{◌≡◌, ◌+◌, ◌≤◌, if◌then◌else◌};
-ghost use Rattle.guest_io.specs.Counts.{raised_by};
+ghost use Rattle.guest_base.specs.Counts.{raised_by};
 ghost use Rattle.guest_io.specs.Failing.{fails_at};
 
 /// Which calls of an object in memory fail, with the calls made and the faults so far.

@@ -1,5 +1,5 @@
-ghost use Rattle.std.specs.Prelude.{◌≡◌, ◌+◌, ◌<◌, ◌≤◌, [], length, vec_len, IfOk, IsErrOf, OnOk};
-ghost use Rattle.guest_io.specs.Counts.{raised_by, RoseByMoreThan};
+ghost use Rattle.std.specs.Prelude.{◌≡◌, ◌+◌, ◌≤◌, [], vec_len, IfOk, IsErrOf};
+ghost use Rattle.guest_base.specs.Counts.{raised_by, RoseByMoreThan};
 
 use crate::files::{Files, ReadFault};
 use guest_base::Bytes;
@@ -72,6 +72,7 @@ fn read_whole<F: Read>(
     ensures counts { IfOk result (λ bytes. bytes_read.new ≡ raised_by (vec_len bytes) bytes_read.old) }
     ensures never_falls { bytes_read.old ≤ bytes_read.new }
 {
+    // A count that was read is known to be in its range.
     let _before = *bytes_read;
     let mut bytes = Vec::new(alloc);
     while bytes.len() as u64 <= max {
@@ -104,7 +105,7 @@ fn read_named<R: rt::Files>(
 
 impl<R: rt::Files> Files for RealFiles<R> {
     ghost use Rattle.std.specs.Prelude.{◌≡◌, ◌≤◌, length, None, IfOk, IsErrOf};
-    ghost use Rattle.guest_io.specs.Counts.{raised_by, RoseByMoreThan, Rose};
+    ghost use Rattle.guest_base.specs.Counts.{raised_by, RoseByMoreThan};
     ghost use Rattle.guest_io.specs.Reading.{AsksFor, faults_after};
     ghost use Rattle.guest_io.specs.RealFiles.{names_asked, faults_of, bytes_of};
 

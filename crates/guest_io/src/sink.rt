@@ -1,5 +1,5 @@
 ghost use Rattle.std.specs.Prelude.{◌≡◌, ℕ, List, Option, ◌≤◌, OnOk, IsErrOf, is_some};
-ghost use Rattle.guest_io.specs.Counts.{Rose};
+ghost use Rattle.guest_base.specs.Counts.{Rose};
 ghost use Rattle.guest_io.specs.Writing.{appended, AppendsPrefix};
 ghost use Rattle.guest_io.specs.declared.sink.PutFault.TheVariants.{NoMemory};
 

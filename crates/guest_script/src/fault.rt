@@ -5,7 +5,7 @@ ghost use Rattle.guest_script.specs.declared.fault.FirstScriptFault.TheVariants.
 
 use std::alloc::{AllocError, AllocFailed};
 
-/// Why a script isn't one of accept lines.
+/// Why a script isn't one of accept and query lines.
 #[derive(Clone, Copy, Debug, PartialEq, Eq)]
 pub enum FirstScriptFault {
     /// Some line isn't such a line, or there are more than 2,048.

@@ -8,7 +8,7 @@ mod number;
 mod reply;
 
 pub use fault::FirstScriptFault;
-pub use first::read_accepts;
+pub use first::read_first;
 pub use number::read_number;
 pub use reply::print_reply;
 

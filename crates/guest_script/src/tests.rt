@@ -4,9 +4,9 @@ use guest_base::Items;
 use std::test::Fail;
 
 #[test]
-fn two_accepts(rt: HostRuntime) -> Result<(), Fail> {
-    let text = b"accept 0x400000 0x1000\naccept 0 4096\n";
-    let script = read_accepts(rt.alloc(), text)?;
+fn accept_and_query(rt: HostRuntime) -> Result<(), Fail> {
+    let text = b"accept 0x400000 0x1000\nquery 0 4096\n";
+    let script = read_first(rt.alloc(), text)?;
     assert_eq!(rt; script.len(), 2);
     assert!(rt;
         matches!(
@@ -16,7 +16,7 @@ fn two_accepts(rt: HostRuntime) -> Result<(), Fail> {
                     start: 0x40_0000,
                     len: 0x1000
                 },
-                Command::Accept {
+                Command::Query {
                     start: 0,
                     len: 4096
                 }
@@ -31,10 +31,10 @@ fn later_scripts(rt: HostRuntime) {
     for text in [
         b"accept 0 1".as_slice(),
         b"accept  0 1\n".as_slice(),
-        b"query 0 1\n".as_slice(),
+        b"free a\n".as_slice(),
         b"\n".as_slice(),
     ] {
-        assert!(rt; matches!(read_accepts(rt.alloc(), text), Err(FirstScriptFault::Later)));
+        assert!(rt; matches!(read_first(rt.alloc(), text), Err(FirstScriptFault::Later)));
     }
 }
 

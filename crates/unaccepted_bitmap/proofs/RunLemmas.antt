@@ -12,6 +12,7 @@ is_some-run_at test end (Some n) = refl
 
 -- one of the units passes exactly where there is a first run of those that pass
 pub any_unit-first_run : (test : ℕ → Bool) (units : Units) → any_unit test (Some units) ≡ is_some (first_run test units.first (units.first + units.count))
+unfolding first_run
 any_unit-first_run test units =
     let e : units.first + units.count - units.first ≡ units.count = omega arith in
     any_such-first test units.first units.count
@@ -21,11 +22,13 @@ any_unit-first_run test units =
 -- a run is looked for only up to where nothing passes any more
 pub first_run-none : (test : ℕ → Bool) (from to limit : ℕ) → ((n : ℕ) → limit ≤ n → test n ≡ false)
     → first_such test from (min to limit - from) ≡ None → first_run test from to ≡ None
+unfolding first_run
 first_run-none test from to limit above e = ap (run_at test to) (sym (first_such_clip test from to limit above) ∙ e)
 
 pub first_run-found : (test : ℕ → Bool) (from to limit found : ℕ) → ((n : ℕ) → limit ≤ n → test n ≡ false)
     → first_such test from (min to limit - from) ≡ Some found
     → first_run test from to ≡ Some (record { first = found; count = row_length test found (min to limit - found) })
+unfolding first_run
 first_run-found test from to limit found above e =
     ap (run_at test to) (sym (first_such_clip test from to limit above) ∙ e)
     ∙ ap (λ n. let units : Units = record { first = found; count = n } in Some units) (sym (row_length_clip test found to limit above))

@@ -1,9 +1,10 @@
 //! A bitmap of unaccepted units.
-ghost use Rattle.std.specs.Prelude.{◌≡◌, ℕ, ◌+◌, ◌*◌, ◌^◌, ◌<◌, ◌≤◌, IfOk};
-ghost use Rattle.event_core.specs.Units.{unit_count, bit_of, units_between, with_guard, first_run};
+ghost use Rattle.std.specs.Prelude.{◌≡◌, ℕ, ◌+◌, ◌^◌, ◌<◌, ◌≤◌, IfOk, IfSome};
+ghost use Rattle.event_core.specs.Units.{unit_count, bit_of, first_run};
 ghost use Rattle.unaccepted_bitmap.specs.BitmapValue.{Bits, IsBitmap, ClearsBits, guarded_in, any_unit};
 
 use crate::bytes::{clear_units, run_of_set};
+use crate::guard::guarded_units;
 use guest_base::{Bytes, Unit, Units};
 use std::alloc::{AllocError, Global};
 use std::marker::Model;
@@ -65,19 +66,11 @@ impl Bitmap {
     pub fn claim_units(&self, start: u64, len: u64) -> Option<Units>
         requires some { 1 ≤ len }
         requires end { start + len ≤ 2 ^ 40 }
-        ensures { result ≡ guarded_in self.now start len }
+        ensures units { result ≡ guarded_in self.now start len }
+        ensures inside { IfSome result (λ units. (0 < units.count) × (units.first + units.count ≤ unit_count self.now.bits)) }
+        ensures kept { IsBitmap self.now }
     {
-        let end = start + len;
-        if end < self.base {
-            return None;
-        }
-        let guarded_end = end_with_guard(self.unit, end - self.base);
-        let bitmap_end = self.unit_count() * self.unit;
-        units_of(
-            self.unit,
-            start.max(self.base) - self.base,
-            guarded_end.min(bitmap_end),
-        )
+        guarded_units(self.unit, self.base, self.unit_count(), start, len)
     }
 
     /// Whether one of the range's guarded units is unaccepted.
@@ -110,26 +103,4 @@ impl Bitmap {
     {
         clear_units(&mut self.bits, units);
     }
-}
-
-fn end_with_guard(unit: u64, end: u64) -> u64
-    requires some { 0 < unit }
-    requires room { end + unit < 2 ^ 64 }
-    ensures { result ≡ with_guard unit end }
-{
-    if end % unit == 0 { end + unit } else { end }
-}
-
-fn units_of(unit: u64, start: u64, end: u64) -> Option<Units>
-    requires { 0 < unit }
-    ensures { result ≡ units_between unit start end }
-{
-    if start >= end {
-        return None;
-    }
-    let first = start / unit;
-    Some(Units {
-        first,
-        count: end.div_ceil(unit) - first,
-    })
 }

@@ -3,5 +3,6 @@
 
 mod bitmap;
 mod bytes;
+mod guard;
 
 pub use bitmap::Bitmap;

@@ -1,5 +1,5 @@
 use Rattle.std.proofs.Common.{◌≡◌, ◌+◌, ◌-◌, ◌≤◌, vec_len}
-use Rattle.guest_io.specs.Counts.{raised_by}
+use Rattle.guest_base.specs.Counts.{raised_by}
 use Rattle.guest_io.proofs.real_files.read_whole.Given as goal
 
 abbrev pub invariant-loop-bytes : goal.invariant-loop-bytes

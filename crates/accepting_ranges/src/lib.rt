@@ -1,0 +1,6 @@
+//! The ranges of units that processors accept at this time.
+#![tactic(auto)]
+
+mod accepting;
+
+pub use accepting::Accepting;

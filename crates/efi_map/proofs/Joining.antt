@@ -1,0 +1,114 @@
+-- Joining runs wherever one goes on with another.
+use Rattle.std.proofs.Common.{◌≡◌, ◌≢◌, ℕ, suc, ◌+◌, ◌<◌, ◌≤◌, Bool, true, false, cond, List, [], ◌∷◌, ◌++◌, length, get_or, drop, take, find, Option, Some, None, refl, sym, ap, subst, ◌∙◌, arith, inl, inr}
+use Rattle.std.specs.Prelude.{◌||◌}
+use Rattle.std.specs.Option.{option_map, option_or}
+use Rattle.std.specs.List.{All, AllPairs}
+use Rattle.std.proofs.lemmas.Bool.Decides.{nat_tests}
+use Rattle.std.proofs.lemmas.List.{get_or-drop, get_or_default, length-drop, take_more}
+use Rattle.std.proofs.lemmas.List.Elements.{All-push}
+use Rattle.std.proofs.lemmas.List.Quantifiers.{all_pairs_push}
+use Rattle.std.proofs.lemmas.List.Folds.{find-append}
+use Rattle.guest_base.specs.declared.memory.PageState.{PageState}
+use Rattle.guest_base.specs.declared.memory.PageRun.{PageRun}
+use Rattle.event_core.specs.Runs.{run_holds, run_end, state_in, GoesBefore, AreMaximalRuns}
+use Rattle.efi_map.specs.Ram.{EndsBefore}
+
+-- what was seen, joined: the runs that are done, and the last one, which may still grow
+pub record Joins (seen runs : List PageRun) (last : PageRun) : Type 0 where
+  pub each : (page : ℕ) → state_in (runs ++ last ∷ []) page ≡ state_in seen page
+  pub some : All (λ (run : PageRun). 0 < run.pages.count) runs
+  pub last_some : 0 < last.pages.count
+  pub rise : AllPairs GoesBefore runs
+  pub before : All (λ (run : PageRun). GoesBefore run last) runs
+
+state_or : (a b : Option PageRun) → option_map (λ (run : PageRun). run.state) (option_or a b) ≡ option_or (option_map (λ (run : PageRun). run.state) a) (option_map (λ (run : PageRun). run.state) b)
+state_or (Some x) b = refl
+state_or None b = refl
+
+state_one : (b : Bool) (x : PageRun) → option_map (λ (run : PageRun). run.state) (cond b (Some x) None) ≡ cond b (Some x.state) None
+state_one true x = refl
+state_one false x = refl
+
+-- a page's state with one more run
+state_push : (xs : List PageRun) (x : PageRun) (page : ℕ) → state_in (xs ++ x ∷ []) page ≡ option_or (state_in xs page) (cond (run_holds page x) (Some x.state) None)
+state_push xs x page =
+    ap (option_map (λ (run : PageRun). run.state)) (find-append (run_holds page) xs (x ∷ []))
+    ∙ state_or (find (run_holds page) xs) (find (run_holds page) (x ∷ []))
+    ∙ ap (option_or (state_in xs page)) (state_one (run_holds page x) x)
+
+-- a run with the pages of the next behind it
+abbrev pub grown : PageRun → PageRun → PageRun
+grown last next = record { pages = record { first = last.pages.first; count = last.pages.count + next.pages.count }; state = last.state }
+
+grown_holds : (last next : PageRun) (page : ℕ) → run_end last ≡ next.pages.first → run_holds page (grown last next) ≡ (run_holds page last || run_holds page next)
+grown_holds last next page meets = grind (arith, nat_tests)
+
+grown_state : (done seen : Option PageState) (l n : Bool) (s : PageState) → option_or done (cond l (Some s) None) ≡ seen → option_or done (cond (l || n) (Some s) None) ≡ option_or seen (cond n (Some s) None)
+grown_state (Some a) seen l n s e = rw (← e) refl
+grown_state None seen true n s e = rw (← e) refl
+grown_state None seen false n s e = rw (← e) refl
+
+pub joins_grow : (seen runs : List PageRun) (last next : PageRun) → run_end last ≡ next.pages.first → last.state ≡ next.state → Joins seen runs last → Joins (seen ++ next ∷ []) runs (grown last next)
+joins_grow seen runs last next meets same joins = record {
+  each = λ page.
+      state_push runs (grown last next) page
+      ∙ ap (λ (b : Bool). option_or (state_in runs page) (cond b (Some last.state) None)) (grown_holds last next page meets)
+      ∙ grown_state (state_in runs page) (state_in seen page) (run_holds page last) (run_holds page next) last.state (sym (state_push runs last page) ∙ joins.each page)
+      ∙ ap (λ (s : PageState). option_or (state_in seen page) (cond (run_holds page next) (Some s) None)) same
+      ∙ sym (state_push seen next page);
+  some = joins.some;
+  last_some = omega (arith, joins.last_some);
+  rise = joins.rise;
+  before = λ k d lt. record { ends = (joins.before k d lt).ends; differs = (joins.before k d lt).differs };
+}
+
+pub joins_push : (seen runs : List PageRun) (last next : PageRun) → run_end last ≤ next.pages.first → (run_end last ≡ next.pages.first → last.state ≢ next.state) → 0 < next.pages.count → Joins seen runs last → Joins (seen ++ next ∷ []) (runs ++ last ∷ []) next
+joins_push seen runs last next ends differs some joins = record {
+  each = λ page.
+      state_push (runs ++ last ∷ []) next page
+      ∙ ap (λ (o : Option PageState). option_or o (cond (run_holds page next) (Some next.state) None)) (joins.each page)
+      ∙ sym (state_push seen next page);
+  some = All-push (λ (run : PageRun). 0 < run.pages.count) runs last joins.some joins.last_some;
+  last_some = some;
+  rise = all_pairs_push GoesBefore runs last joins.rise joins.before;
+  before = All-push (λ (run : PageRun). GoesBefore run next) runs last
+      (λ k d lt. record { ends = omega (arith, (joins.before k d lt).ends, joins.last_some, ends); differs = λ at. absurd (omega (arith, at, (joins.before k d lt).ends, joins.last_some, ends)) })
+      (record { ends = ends; differs = differs });
+}
+
+pub joins_start : (first : PageRun) → 0 < first.pages.count → Joins (first ∷ []) [] first
+joins_start first some = record {
+  each = λ page. refl;
+  some = λ k d lt. absurd (omega (arith, lt));
+  last_some = some;
+  rise = λ i j d lt up. absurd (omega (arith, up));
+  before = λ k d lt. absurd (omega (arith, lt));
+}
+
+pub joins_end : (seen runs : List PageRun) (last : PageRun) → Joins seen runs last → AreMaximalRuns (state_in seen) (runs ++ last ∷ [])
+joins_end seen runs last joins = record {
+  each = joins.each;
+  some = All-push (λ (run : PageRun). 0 < run.pages.count) runs last joins.some joins.last_some;
+  rise = all_pairs_push GoesBefore runs last joins.rise joins.before;
+}
+
+pub no_runs : AreMaximalRuns (state_in []) []
+no_runs = record { each = λ page. refl; some = λ k d lt. absurd (omega (arith, lt)); rise = λ i j d lt up. absurd (omega (arith, up)) }
+
+-- what is known of the runs behind the next one
+pub ahead_at : (first : PageRun) (others : List PageRun) (i : ℕ) (d : PageRun) → i < length others → AllPairs EndsBefore (first ∷ others) → All (EndsBefore (get_or others i d)) (drop (i + 1) others)
+ahead_at first others i d lt rise k e up =
+    let there : (i + 1) + k < length others = omega (arith, up, length-drop (i + 1) others) in
+    let pair : EndsBefore (get_or others i e) (get_or others ((i + 1) + k) e) = rise (suc i) (suc ((i + 1) + k)) e (omega arith) (omega arith) in
+    rw (get_or-drop, get_or_default others i d e lt) pair
+
+-- the runs seen so far, and one more
+pub seen_more : (first : PageRun) (others : List PageRun) (i : ℕ) (d : PageRun) → i < length others → first ∷ take (i + 1) others ≡ (first ∷ take i others) ++ get_or others i d ∷ []
+seen_more first others i d lt = ap (λ (xs : List PageRun). first ∷ xs) (take_more others i d lt)
+
+-- what is known of the next one
+pub here : (others : List PageRun) (last : PageRun) (i : ℕ) (d : PageRun) → i < length others → All (EndsBefore last) (drop i others) → run_end last ≤ (get_or others i d).pages.first
+here others last i d lt ahead =
+    let one : EndsBefore last (get_or (drop i others) 0 d) = ahead 0 d (omega (arith, length-drop i others)) in
+    let at : get_or (drop i others) 0 d ≡ get_or others i d = get_or-drop i others 0 d ∙ ap (λ (k : ℕ). get_or others k d) (omega arith) in
+    subst (λ (r : PageRun). run_end last ≤ r.pages.first) at one

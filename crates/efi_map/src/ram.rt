@@ -1,0 +1,98 @@
+//! The RAM of a map.
+ghost use Rattle.std.specs.Prelude.{◌≡◌, ◌∷◌, [], ◌+◌, ◌≤◌, ◌^◌, IfOk, OnOk, IsTrue, ◌↔◌, map, filter, IsPermutation};
+ghost use Rattle.std.specs.List.Sorted.{IsNonDecreasingBy};
+ghost use Rattle.event_core.specs.Map.{MapRules, first_state};
+ghost use Rattle.event_core.specs.Runs.{AreMaximalRuns, state_in, run_end};
+ghost use Rattle.efi_map.specs.Ram.{run_of, ram_of, AreOrdered};
+
+use crate::descriptors::is_ram;
+use crate::map::GuestMap;
+use event_core::{Descriptor, Runs};
+use guest_base::{PageRun, PageState, Pages};
+use std::alloc::{AllocError, Global};
+
+/// The pages of a descriptor of RAM, and their first state.
+fn run_of(d: Descriptor) -> PageRun
+    ensures { result ≡ run_of d }
+{
+    let pages = Pages {
+        first: d.start / 4096,
+        count: d.pages,
+    };
+    let state = if d.kind == 15 {
+        PageState::Pending
+    } else {
+        PageState::Accepted
+    };
+    PageRun { pages, state }
+}
+
+/// The descriptors of RAM, as runs.
+fn runs_of(alloc: Global, descriptors: &[Descriptor]) -> Result<Vec<PageRun>, AllocError>
+    ensures { IfOk result (λ runs. runs.items ≡ ram_of descriptors.now) }
+{
+    descriptors
+        .iter()
+        .copied()
+        .filter(|d| is_ram(*d))
+        .map(run_of)
+        .collect(alloc)
+}
+
+fn sort(runs: &mut Vec<PageRun>)
+    ensures same { IsPermutation runs.old.items runs.new.items }
+    ensures rise { IsNonDecreasingBy (λ (run : _). run.pages.first) runs.new.items }
+{
+    runs.sort_unstable_by_key(|run| run.pages.first);
+}
+
+/// Whether a run goes on right behind another, in the same state.
+fn goes_on(last: PageRun, next: PageRun) -> bool
+    requires { run_end last ≤ 2 ^ 28 }
+    ensures { IsTrue result ↔ ((run_end last ≡ next.pages.first) × (last.state ≡ next.state)) }
+{
+    last.pages.first + last.pages.count == next.pages.first && last.state == next.state
+}
+
+/// Joins a run and those behind it, wherever one goes on with another.
+fn joined_from(alloc: Global, first: PageRun, others: &[PageRun]) -> Result<Runs, AllocError>
+    requires { AreOrdered (first ∷ others.now) }
+    ensures { IfOk result (λ runs. AreMaximalRuns (state_in (first ∷ others.now)) runs) }
+{
+    let mut runs = Runs::new(alloc);
+    let mut last = first;
+    for next in others {
+        if goes_on(last, *next) {
+            last.pages.count += next.pages.count;
+        } else {
+            runs.try_push(last)?;
+            last = *next;
+        }
+    }
+    runs.try_push(last)?;
+    Ok(runs)
+}
+
+/// Joins runs wherever one goes on with another.
+fn joined(alloc: Global, sorted: &[PageRun]) -> Result<Runs, AllocError>
+    requires { AreOrdered sorted.now }
+    ensures { IfOk result (λ runs. AreMaximalRuns (state_in sorted.now) runs) }
+{
+    match sorted {
+        [] => Ok(Runs::new(alloc)),
+        [first, others @ ..] => joined_from(alloc, *first, others),
+    }
+}
+
+impl GuestMap {
+    /// The maximal runs of RAM pages by the state that the map alone gives them, rising: Pending where a page is
+    /// unaccepted, and Accepted elsewhere (UEFI memory types).
+    pub fn ram(&self, alloc: Global) -> Result<Runs, AllocError>
+        requires { MapRules self.now.descriptors self.now.hosts }
+        ensures { IfOk result (λ runs. AreMaximalRuns (first_state self.now.descriptors) runs) }
+    {
+        let mut runs = runs_of(alloc, self.descriptors.as_slice())?;
+        sort(&mut runs);
+        joined(alloc, &runs)
+    }
+}
