@@ -1,0 +1,4 @@
+//! The run of a guest.
+#![tactic(auto)]
+
+fn nothing() {}
