@@ -1,4 +1,6 @@
 //! The run of a guest.
 #![tactic(auto)]
 
-fn nothing() {}
+mod one;
+
+pub use one::turns;

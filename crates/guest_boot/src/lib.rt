@@ -1,0 +1,6 @@
+//! What boot makes of a map.
+#![tactic(auto)]
+
+mod world;
+
+pub use world::{World, boot, is_first_form};
