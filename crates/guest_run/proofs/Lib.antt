@@ -1,1 +1,2 @@
 pub mod OneProcessor
+pub mod StandsLemmas
