@@ -1,2 +1,3 @@
 pub mod OneProcessor
 pub mod StandsLemmas
+pub mod KeptLemmas

@@ -1,0 +1,102 @@
+//! What is kept of a guest's memory: the states of pages, and which units are unaccepted.
+ghost use Rattle.std.specs.Prelude.{◌≡◌, ◌≢◌, ℕ, List, [], ◌++◌, ◌+◌, ◌*◌, ◌/◌, ◌^◌, ◌<◌, ◌≤◌, true, None, Option, IfOk, IfSome, not};
+ghost use Rattle.guest_base.specs.Ranges.{in_range};
+ghost use Rattle.guest_base.specs.Search.{any_such, count_such};
+ghost use Rattle.event_core.specs.declared.boot.Boot.{Boot};
+ghost use Rattle.event_core.specs.declared.module_call.ModuleCall.{ModuleCall};
+ghost use Rattle.event_core.specs.Acceptance.{stop_of};
+ghost use Rattle.event_core.specs.Units.{first_run, units_cleared, unit_count};
+ghost use Rattle.event_core.specs.MemoryRows.{AcceptsUnits};
+ghost use Rattle.page_module.specs.States.{state_in};
+ghost use Rattle.accept_sizes.specs.Accepts.{pending_of};
+ghost use Rattle.guest_run.specs.Kept.{bits_in, guarded_by, unit_pages_of, unit_first_of, ClearedBy};
+
+use accept_sizes::{CallLog, RunEnd, accept_run, most_calls};
+use event_core::{Calls, Hosts};
+use guest_base::{Page, Pages, Unit, Units};
+use page_module::{Port, Span};
+use std::alloc::{AllocError, Global};
+use unaccepted_bitmap::Bitmap;
+
+/// The states of pages and the bits of unaccepted units; no bits where the map has no unaccepted descriptor.
+#[derive(Drop)]
+pub(crate) struct Memory {
+    pub(crate) spare: u64,
+    pub(crate) bits: Option<Bitmap>,
+}
+
+/// What the acceptance of one run of units did.
+#[derive(Debug, Drop)]
+pub(crate) struct Worked {
+    pub(crate) calls: Calls,
+    /// The page at which it stopped.
+    pub(crate) stopped: Option<Page>,
+    /// The number of units whose bits it cleared.
+    pub(crate) cleared: u64,
+}
+
+/// The guarded units of a range of bytes.
+pub(crate) fn guarded_units_of(bits: &Option<Bitmap>, start: u64, len: u64) -> Option<Units>
+    requires some { 1 ≤ len }
+    requires end { start + len ≤ 2 ^ 40 }
+    ensures { result ≡ guarded_by bits.now start len }
+{
+    match bits {
+        Some(bits) => bits.claim_units(start, len),
+        None => None,
+    }
+}
+
+/// The first maximal run of unaccepted units from one on and below another.
+pub(crate) fn run_from(bits: &Option<Bitmap>, from: u64, end: u64) -> Option<Units>
+    ensures { result ≡ first_run (bits_in bits.now) from end }
+{
+    match bits {
+        Some(bits) => bits.next_run(Unit(from), Unit(end)),
+        None => None,
+    }
+}
+
+/// Whether one of these pages is pending in the span.
+fn has_pending(span: &Span, first: u64, count: u64) -> bool
+    ensures { result ≡ any_such (pending_of span.now) first count }
+{
+    match span.next_pending(Page(first)) {
+        Some(run) => run.first - first < count,
+        None => false,
+    }
+}
+
+/// The pages of units of a bitmap.
+fn pages_of(bits: &Bitmap, units: Units) -> Pages
+    requires { units.first + units.count ≤ unit_count bits.now.bits }
+    ensures first { result.first ≡ unit_first_of bits.now units.first }
+    ensures count { result.count ≡ units.count * unit_pages_of bits.now }
+    ensures end { result.first + result.count < 2 ^ 40 }
+{
+    let size = bits.unit() / 4096;
+    Pages {
+        first: bits.base() / 4096 + units.first * size,
+        count: units.count * size,
+    }
+}
+
+/// Clears the bits of the units in which no page of the span is pending, and tells how many.
+fn clear_accepted(bits: &mut Bitmap, span: &Span, run: Units) -> u64
+    requires inside { run.first + run.count ≤ unit_count bits.old.bits }
+    requires end { run.first + run.count < 2 ^ 64 }
+    ensures unit { bits.new.unit ≡ bits.old.unit }
+    ensures base { bits.new.base ≡ bits.old.base }
+    ensures cleared { ClearedBy bits.old bits.new (pending_of span.now) run.first run.count }
+    ensures count { result ≡ count_such (λ unit. not (any_such (pending_of span.now) (unit_first_of bits.old unit) (unit_pages_of bits.old))) run.first run.count }
+{
+    let mut cleared = 0;
+    for unit in run.first..run.first + run.count {
+        let pages = pages_of(bits, Units { first: unit, count: 1 });
+        if !has_pending(span, pages.first, pages.count) {
+            bits.clear(Units { first: unit, count: 1 });
+            cleared += 1;
+        }
+    }
+    cleared
+}
