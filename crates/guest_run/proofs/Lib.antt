@@ -1,3 +1,4 @@
 pub mod OneProcessor
 pub mod StandsLemmas
 pub mod KeptLemmas
+pub mod AtLemmas

@@ -34,18 +34,9 @@ use Rattle.event_core.specs.Legal.{FollowsOver, Follows, LegalAfter, Legal, Whol
 use Rattle.event_core.specs.Turns.{TakenIn, is_idle, Turned}
 use Rattle.event_core.proofs.StandingLemmas.{IsPlaced, claim_of-memory, calls_of-memory}
 use Rattle.event_core.proofs.SoundLemmas.{entries_of-push, placed-push}
+use Rattle.guest_run.specs.Running.{IsMine, History, entry_for, Running}
 
 -- Histories of one processor, whose number is 0.
-
--- an entry of the processor, where its event takes place
-abbrev pub IsMine : Boot → Moved → Type 0
-IsMine boot m = (m.entry.cpu.0 ≡ 0) × IsPlaced boot m
-
--- a history of the processor's entries, whose greatest stamp this is
-pub record History (boot : Boot) (moved : List Moved) (clock : ℕ) : Type 0 where
-  pub each : AllByRecursion (IsMine boot) moved
-  pub stamps : AllByRecursion (λ (m : Moved). m.entry.stamp ≤ clock) moved
-  pub greatest : greatest_stamp moved ≡ clock
 
 mine-all : (boot : Boot) (moved : List Moved) → AllByRecursion (IsMine boot) moved → made_by 0 moved ≡ moved
 mine-all boot [] each = refl
@@ -88,10 +79,6 @@ next-stamp boot moved clock p history =
     let there = at-stamps clock p moved history.stamps in
     omega (arith, own, there)
 
--- the entry that a step makes
-abbrev pub entry_for : ℕ → ℕ → Boot → Step → Entry
-entry_for clock number boot s = record { stamp = clock + 1; cpu = record { 0 = 0 }; cmd = number; place = place_of boot s.event; event = s.event; reply = s.reply }
-
 -- what makes a step that may be made an entry that follows
 pub follows : (boot : Boot) (scripts : List (List Command)) (moved : List Moved) (clock : ℕ) (s : Step) → History boot moved clock → next_step boot scripts 0 moved (entries_of (at_place (place_of boot s.event) moved)) (calls_in s.event) ≡ Some s → CallsFit boot (entries_of (at_place (place_of boot s.event) moved)) s.event → Follows boot scripts moved (entry_for clock (replied moved) boot s)
 follows boot scripts moved clock s history next fits = record {
@@ -133,11 +120,6 @@ all-later clock entry [] low all = All-nil (λ (m : Moved). ComesBefore m.entry 
 all-later clock entry (m ∷ moved) low all = All-cons (λ (m : Moved). ComesBefore m.entry entry) m moved (inl (omega (arith, all.0))) (all-later clock entry moved low all.1)
 
 -- ---- one processor's run so far
-
--- a legal history of the processor
-pub record Running (boot : Boot) (scripts : List (List Command)) (entries : List Entry) (clock : ℕ) : Type 0 where
-  pub legal : Legal boot scripts entries
-  pub history : History boot (with_moved boot entries) clock
 
 pub running-start : (boot : Boot) (scripts : List (List Command)) → Running boot scripts [] 0
 running-start boot scripts = record { legal = tt; history = record { each = tt; stamps = tt; greatest = refl } }

@@ -1,6 +1,7 @@
 //! The run of a guest.
 #![tactic(auto)]
 
+mod command;
 mod memory;
 mod one;
 

@@ -2,17 +2,16 @@
 ghost use Rattle.std.specs.Prelude.{◌≡◌, ◌≢◌, ℕ, List, [], ◌++◌, ◌+◌, ◌*◌, ◌/◌, ◌^◌, ◌<◌, ◌≤◌, true, None, Option, IfOk, IfSome, not};
 ghost use Rattle.guest_base.specs.Ranges.{in_range};
 ghost use Rattle.guest_base.specs.Search.{any_such, count_such};
-ghost use Rattle.event_core.specs.declared.boot.Boot.{Boot};
 ghost use Rattle.event_core.specs.declared.module_call.ModuleCall.{ModuleCall};
 ghost use Rattle.event_core.specs.Acceptance.{stop_of};
 ghost use Rattle.event_core.specs.Units.{first_run, units_cleared, unit_count};
 ghost use Rattle.event_core.specs.MemoryRows.{AcceptsUnits};
 ghost use Rattle.page_module.specs.States.{state_in};
 ghost use Rattle.accept_sizes.specs.Accepts.{pending_of};
-ghost use Rattle.guest_run.specs.Kept.{bits_in, guarded_by, unit_pages_of, unit_first_of, ClearedBy};
+ghost use Rattle.guest_run.specs.Standing.{Stands};
+ghost use Rattle.guest_run.specs.Kept.{bits_in, table_of, guarded_by, unit_pages_of, unit_first_of, ClearedBy, KeptFor};
 
-use accept_sizes::{CallLog, RunEnd, accept_run, most_calls};
-use event_core::{Calls, Hosts};
+use event_core::{Boot, Calls};
 use guest_base::{Page, Pages, Unit, Units};
 use page_module::{Port, Span};
 use std::alloc::{AllocError, Global};
@@ -99,4 +98,30 @@ fn clear_accepted(bits: &mut Bitmap, span: &Span, run: Units) -> u64
         }
     }
     cleared
+}
+
+/// Accepts a run of unaccepted units: its pages are taken out, accepted by sizes and put back, and the bits
+/// of the units without a pending page are cleared.
+pub(crate) fn accept_units<P: Port>(
+    alloc: Global,
+    boot: &Boot,
+    memory: &mut Memory,
+    port: &mut P,
+    run: Units,
+) -> Result<Worked, AllocError>
+    requires stands { (calls : List ModuleCall) × Stands boot.now calls (table_of memory.old) (bits_in memory.old.bits) }
+    requires kept { KeptFor boot.now memory.old }
+    requires some { 0 < run.count }
+    requires set { (unit : ℕ) → in_range run.first run.count unit ≡ true → bits_in memory.old.bits unit ≡ true }
+    ensures accepts { IfOk result (λ w. (calls : List ModuleCall) → Stands boot.now calls (table_of memory.old) (bits_in memory.old.bits) → AcceptsUnits boot.now calls run w.calls) }
+    ensures stands { IfOk result (λ w. (calls : List ModuleCall) → Stands boot.now calls (table_of memory.old) (bits_in memory.old.bits)
+        → Stands boot.now (calls ++ w.calls) (table_of memory.new) (bits_in memory.new.bits)) }
+    ensures cleared { IfOk result (λ w. (calls : List ModuleCall) → Stands boot.now calls (table_of memory.old) (bits_in memory.old.bits)
+        → w.cleared ≡ units_cleared boot.now calls (calls ++ w.calls) run) }
+    ensures few { IfOk result (λ w. w.cleared ≤ run.count) }
+    ensures stopped { IfOk result (λ w. w.stopped ≡ stop_of w.calls) }
+    ensures kept { IfOk result (λ w. KeptFor boot.now memory.new) }
+    ensures made { IfOk result (λ w. P.made port.new ≡ P.made port.old ++ w.calls) }
+{
+    Err(AllocError)
 }
