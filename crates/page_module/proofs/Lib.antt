@@ -2,3 +2,11 @@ pub mod Tests
 pub mod SpanLemmas
 pub mod ScanLemmas
 pub mod SpanWithin
+pub mod JoinLemmas
+pub mod RoomLemmas
+pub mod CutLemmas
+pub mod CopyLemmas
+pub mod PlaceLemmas
+pub mod OutLemmas
+pub mod TableLemmas
+pub mod PutLemmas

@@ -20,12 +20,14 @@ runs-end first end [] h = omega (arith, h)
 runs-end first end (t ∷ rs) h = omega (arith, h.0, h.1, runs-end (first + t.run.pages.count) end rs h.3)
 
 -- each taken run ends within memory, where the last does
-pub runs-fit : (first end : ℕ) (rs : List TakenRun) → RunsFrom first end rs → end ≤ 2 ^ 28 → All EndsInMemory rs
+pub runs-fit : (first end : ℕ) (rs : List TakenRun) → RunsFrom first end rs → (first < end → end ≤ 2 ^ 28) → All EndsInMemory rs
 runs-fit first end [] h b = All-nil EndsInMemory
 runs-fit first end (t ∷ rs) h b =
-    All-cons EndsInMemory t rs
-    (h.2, (let e = runs-end (first + t.run.pages.count) end rs h.3 in let f = h.0 in omega arith))
-    (runs-fit (first + t.run.pages.count) end rs h.3 b)
+    let e = runs-end (first + t.run.pages.count) end rs h.3 in
+    let f = h.0 in
+    let g = h.1 in
+    let bound : end ≤ 2 ^ 28 = b (omega arith) in
+    All-cons EndsInMemory t rs (h.2, omega arith) (runs-fit (first + t.run.pages.count) end rs h.3 (λ _. bound))
 
 pub state-below : (first end page : ℕ) (rs : List TakenRun) → RunsFrom first end rs → page < first → state_in (runs_now rs) page ≡ None
 state-below first end page [] h b = refl
@@ -304,20 +306,29 @@ becomes-accepted ticket rs new span pages h e b n =
               (state-past first (first + count) page (map (accepted_in pages) rs) (runs-accepted pages first (first + count) rs h) u)
         ]
 
--- pages of a span end within memory, where there are any
+-- a page with a state is one of the span's
+pub state-within : {state : PageState} (first end page : ℕ) (rs : List TakenRun) → RunsFrom first end rs → state_in (runs_now rs) page ≡ Some state →
+    (first ≤ page) × (page < end)
+state-within first end page rs h e = (
+  elim (cases_lt page first) [ inl l ↦ let z = state-below first end page rs h l in cc | inr l ↦ l ],
+  elim (cases_lt page end) [ inl l ↦ l | inr l ↦ let z = state-past first end page rs h l in cc ],
+)
+
+-- pending pages lie in the span
 pub span-end : (ticket : Ticket) (rs : List TakenRun) (span : Taken) (pages : Pages) →
     RunsFrom ticket.pages.first (ticket.pages.first + ticket.pages.count) rs →
     (let own : Taken = record { ticket = ticket; runs = runs_now rs } in own ≡ span) →
     BeginsPending span pages.first pages.count → 0 < pages.count →
-    pages.first + pages.count ≤ ticket.pages.first + ticket.pages.count
+    (ticket.pages.first ≤ pages.first) × (pages.first + pages.count ≤ ticket.pages.first + ticket.pages.count)
 span-end ticket rs span pages h e b s =
     let last : ℕ = pages.first + pages.count - 1 in
-    let p = b.pending last (in_range-within pages.first pages.count last (omega arith) (omega arith)) in
-    elim (cases_lt last (ticket.pages.first + ticket.pages.count)) [
-      | inl u ↦ omega arith
-      | inr u ↦ let n = state-past ticket.pages.first (ticket.pages.first + ticket.pages.count) last rs h u in
-          let same = ap (λ (s : Taken). state_in s.runs last) e in cc
-    ]
+    let states = λ (p : ℕ). ap (λ (s : Taken). state_in s.runs p) e in
+    let x = state-within ticket.pages.first (ticket.pages.first + ticket.pages.count) pages.first rs h
+    (states pages.first ∙ b.pending pages.first (in_range-within pages.first pages.count pages.first (omega arith) (omega arith))) in
+    let y = state-within ticket.pages.first (ticket.pages.first + ticket.pages.count) last rs h
+    (states last ∙ b.pending last (in_range-within pages.first pages.count last (omega arith) (omega arith))) in
+    let z = y.1 in
+    (x.0, omega arith)
 
 pub pages-same : (a b : Pages) → (a.first == b.first && a.count == b.count) ≡ true → a ≡ b
 pages-same a b e = let h : (a.first ≡ b.first) × (a.count ≡ b.count) = grind (arith, nat_tests) in

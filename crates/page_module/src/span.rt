@@ -1,5 +1,5 @@
 //! Spans of pages.
-ghost use Rattle.std.specs.Prelude.{◌≡◌, ◌≢◌, ℕ, ◌⊎◌, ◌+◌, ◌≤◌, ◌<◌, ◌^◌, map, All, true, length, Option, Some, None, IfSome, IfNone, if◌then◌else◌};
+ghost use Rattle.std.specs.Prelude.{◌≡◌, ◌≢◌, ℕ, ◌⊎◌, ◌+◌, ◌≤◌, ◌<◌, ◌^◌, map, All, true, length, vec_capacity, Option, Some, None, IfSome, IfNone, if◌then◌else◌};
 ghost use Rattle.guest_base.specs.Ranges.{in_range};
 ghost use Rattle.guest_base.specs.declared.memory.PageState.TheVariants.{Accepted};
 
@@ -9,22 +9,22 @@ use std::marker::Model;
 
 /// A run of pages as it was taken, of which the first `accepted` were accepted since.
 #[derive(Clone, Copy, Debug, PartialEq, Eq)]
-struct TakenRun {
-    run: PageRun,
-    accepted: u64,
+pub(crate) struct TakenRun {
+    pub(crate) run: PageRun,
+    pub(crate) accepted: u64,
 }
 
 /// Pages that are taken out of a page table, with their states.
 ///
 /// Contracts see the ticket of their taking, and runs that tell each page's state.
-#[derive(Debug)]
+#[derive(Debug, Drop)]
 pub struct Span {
     ticket: Ticket,
     runs: Vec<TakenRun>,
 }
 
 impl Model for Span {
-    ghost use Rattle.std.specs.Prelude.{◌≡◌, ◌+◌, ◌≤◌, ◌^◌, length};
+    ghost use Rattle.std.specs.Prelude.{◌≡◌, ◌+◌, ◌<◌, ◌≤◌, ◌^◌, length, vec_capacity};
     ghost use Rattle.page_module.specs.Spans.{Taken, runs_now, RunsFrom};
 
     ghost Value = { Taken };
@@ -33,13 +33,38 @@ impl Model for Span {
 
     ghost invariant = { λ s. RunsFrom s.ticket.pages.first (s.ticket.pages.first + s.ticket.pages.count) s.runs.items
         × (length s.runs.items ≤ s.ticket.runs)
-        × (s.ticket.pages.first + s.ticket.pages.count ≤ 2 ^ 28) };
+        × (0 < s.ticket.pages.count → s.ticket.pages.first + s.ticket.pages.count ≤ 2 ^ 28)
+        × (s.ticket.room ≤ vec_capacity s.runs) };
 }
 
 impl Span {
     ghost use Rattle.page_module.specs.States.{state_in};
-    ghost use Rattle.page_module.specs.Spans.{BeginsPending, Becomes};
+    ghost use Rattle.page_module.specs.Spans.{BeginsPending, Becomes, runs_now, RunsFrom};
     ghost use Rattle.page_module.specs.Marking.{IsFirstPending, NonePending};
+
+    /// The span of a ticket and of the runs that were taken by it.
+    pub(crate) fn new(ticket: Ticket, runs: Vec<TakenRun>) -> Span
+        requires runs { RunsFrom ticket.pages.first (ticket.pages.first + ticket.pages.count) runs.items }
+        requires few { length runs.items ≤ ticket.runs }
+        requires ends { 0 < ticket.pages.count → ticket.pages.first + ticket.pages.count ≤ 2 ^ 28 }
+        requires room { ticket.room ≤ vec_capacity runs }
+        ensures { result ≡ record { ticket = ticket; runs = runs_now runs.items } }
+    {
+        Span { ticket, runs }
+    }
+
+    /// The ticket, and the runs that were taken by it.
+    pub(crate) fn into_parts(self) -> (Ticket, Vec<TakenRun>)
+        ensures ticket { result.0 ≡ self.ticket }
+        ensures states { runs_now result.1.items ≡ self.runs }
+        ensures runs { RunsFrom self.ticket.pages.first (self.ticket.pages.first + self.ticket.pages.count) result.1.items }
+        ensures few { length result.1.items ≤ self.ticket.runs }
+        ensures ends { 0 < self.ticket.pages.count → self.ticket.pages.first + self.ticket.pages.count ≤ 2 ^ 28 }
+        ensures room { self.ticket.room ≤ vec_capacity result.1 }
+    {
+        let Span { ticket, runs } = self;
+        (ticket, runs)
+    }
 
     /// The span's pages. No other page has a state in it, and none lies at or above 2^28.
     pub fn pages(&self) -> Pages
@@ -180,7 +205,8 @@ fn first_page_of(runs: &Vec<TakenRun>, pending: bool, from: u64) -> Option<u64>
 
 /// Gives every page a state.
 fn set_state(runs: &mut Vec<TakenRun>, state: PageState)
-    ensures { runs.new.items ≡ map (all_in_state state) runs.old.items }
+    ensures items { runs.new.items ≡ map (all_in_state state) runs.old.items }
+    ensures capacity { vec_capacity runs.new ≡ vec_capacity runs.old }
 {
     for taken in runs.iter_mut() {
         *taken = all_of(*taken, state);
@@ -201,7 +227,8 @@ fn all_of(taken: TakenRun, state: PageState) -> TakenRun
 fn accept_pages(runs: &mut Vec<TakenRun>, pages: Pages)
     requires runs { All EndsInMemory runs.old.items }
     requires pages { 0 < pages.count → pages.first + pages.count < 2 ^ 64 }
-    ensures { runs.new.items ≡ map (accepted_in pages) runs.old.items }
+    ensures items { runs.new.items ≡ map (accepted_in pages) runs.old.items }
+    ensures capacity { vec_capacity runs.new ≡ vec_capacity runs.old }
 {
     for taken in runs.iter_mut() {
         *taken = with_accepted(*taken, pages);

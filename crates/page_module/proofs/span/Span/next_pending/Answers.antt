@@ -4,10 +4,10 @@ use Rattle.page_module.proofs.ScanLemmas.{none-pending, next-pending}
 use Rattle.page_module.proofs.span.Span.next_pending.Goals as goal
 
 pub first_page_of-requires : goal.first_page_of-requires
-first_page_of-requires c = runs-fit _ _ _ c.self.invariant.0 c.self.invariant.2
+first_page_of-requires c = runs-fit _ _ _ c.self.invariant.0 (λ l. c.self.invariant.2 (omega arith))
 
 pub first_page_of-requires-2 : goal.first_page_of-requires-2
-first_page_of-requires-2 c = runs-fit _ _ _ c.self.invariant.0 c.self.invariant.2
+first_page_of-requires-2 c = runs-fit _ _ _ c.self.invariant.0 (λ l. c.self.invariant.2 (omega arith))
 
 pub overflow_sub-result : goal.overflow_sub-result
 overflow_sub-result c =

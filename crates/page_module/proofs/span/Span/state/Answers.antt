@@ -11,7 +11,7 @@ loop-taken-init c = rw (c.deref-taken-items.ensures.value, ← c.self.view_is) r
 
 pub loop-taken-preserved : goal.loop-taken-preserved
 loop-taken-preserved c =
-    let all : All EndsInMemory c.deref-taken-items.result.now = rw c.deref-taken-items.ensures.value (runs-fit _ _ _ c.self.invariant.0 c.self.invariant.2) in
+    let all : All EndsInMemory c.deref-taken-items.result.now = rw c.deref-taken-items.ensures.value (runs-fit _ _ _ c.self.invariant.0 (λ l. c.self.invariant.2 (omega arith))) in
     state-pass _ _ _ _ c.loop-taken-test.true (All-get_or EndsInMemory _ _ _ c.loop-taken-test.true all).0 (sym c.holds.ensures ∙ c.if-holds.false)
     ∙ c.loop-taken.invariant
 

@@ -1,0 +1,121 @@
+-- What putting a span back rests on.
+use Rattle.std.proofs.Common.{◌≡◌, ◌≢◌, ℕ, ◌+◌, ◌-◌, ◌*◌, ◌^◌, ◌<◌, ◌≤◌, List, [], ◌∷◌, ◌++◌, Option, None, Some, All, true, false, fold, length, sum_by, if◌then◌else◌, arith, refl, sym, ap, subst, ◌∙◌, inl, inr}
+use Rattle.std.specs.List.{flat_map}
+use Rattle.std.proofs.lemmas.Bool.{cases_lt}
+use Rattle.std.proofs.lemmas.Grind.{fold-append}
+use Rattle.guest_base.specs.Ranges.{in_range}
+use Rattle.guest_base.specs.declared.memory.Pages.{Pages}
+use Rattle.guest_base.specs.declared.memory.PageRun.{PageRun}
+use Rattle.guest_base.specs.declared.memory.PageState.{PageState}
+use Rattle.page_module.specs.States.{state_in}
+use Rattle.page_module.specs.Spans.{Taken, runs_now, RunsFrom}
+use Rattle.page_module.specs.Tables.{Table, Rising, Differing, is_out, without}
+use Rattle.page_module.specs.Building.{parts, joined, places, AllOut, RunEnds}
+use Rattle.page_module.specs.declared.span.TakenRun.{TakenRun}
+use Rattle.page_module.specs.declared.ticket.Ticket.{Ticket}
+use Rattle.page_module.proofs.Tests.{in_range-within, in_range-below, in_range-past, in_range-true}
+use Rattle.page_module.proofs.JoinLemmas.{end_after}
+use Rattle.page_module.proofs.PlaceLemmas.{Before, Behind, placed-states, placed-rising, all-parts-states, all-parts-rising, all-parts-length, split-length, none-taken}
+use Rattle.page_module.proofs.OutLemmas.{out-free, places-without, length-without, all-out-less}
+use Rattle.page_module.proofs.TableLemmas.{Built, built, rising-ends}
+use Rattle.page_module.proofs.SpanLemmas.{runs-fit}
+use Rattle.page_module.specs.Marking.{EndsInMemory}
+
+-- a span's runs, as they are put
+record SpanRises (ticket : Ticket) (taken : List TakenRun) : Type 0 where
+  pub rising : Rising ticket.pages.first (flat_map parts taken)
+  pub ends : end_after ticket.pages.first (flat_map parts taken) ≤ ticket.pages.first + ticket.pages.count
+
+span-rises : (ticket : Ticket) (taken : List TakenRun) → RunsFrom ticket.pages.first (ticket.pages.first + ticket.pages.count) taken →
+    (0 < ticket.pages.count → ticket.pages.first + ticket.pages.count ≤ 2 ^ 28) → SpanRises ticket taken
+span-rises ticket taken h m =
+    elim (cases_lt 0 ticket.pages.count) [
+      | inl l ↦
+          let r = all-parts-rising ticket.pages.first (ticket.pages.first + ticket.pages.count) taken h (m l) in
+          let e = r.1 in
+          record { rising = r.0; ends = omega arith }
+      | inr l ↦
+          let n = none-taken ticket.pages.first (ticket.pages.first + ticket.pages.count) taken h (omega arith) in
+          record { rising = rw n tt; ends = rw n (omega arith) }
+    ]
+
+-- the runs of a table in which a span is back
+pub record PutBack (old new : List PageRun) (ticket : Ticket) (taken : List TakenRun) : Type 0 where
+  pub rising : Rising 0 new
+  pub differing : Differing new
+  pub states : (page : ℕ) → state_in new page ≡ (if in_range ticket.pages.first ticket.pages.count page then state_in (runs_now taken) page else state_in old page)
+
+pub put-back : (old next one two new : List PageRun) (ticket : Ticket) (taken : List TakenRun) (out : List Ticket) →
+    Rising 0 old → AllOut old out → is_out out ticket ≡ true →
+    RunsFrom ticket.pages.first (ticket.pages.first + ticket.pages.count) taken →
+    (0 < ticket.pages.count → ticket.pages.first + ticket.pages.count ≤ 2 ^ 28) →
+    next ≡ [] → one ≡ fold joined next (Before ticket.pages.first old) → two ≡ fold joined one (flat_map parts taken) →
+    new ≡ fold joined two (Behind ticket.pages.first old) →
+    PutBack old new ticket taken
+put-back old next one two new ticket taken out h a o f m e p q r =
+    let first : ℕ = ticket.pages.first in
+    let end : ℕ = first + ticket.pages.count in
+    let ys : List PageRun = flat_map parts taken in
+    let span = span-rises ticket taken f m in
+    let free : (page : ℕ) → first ≤ page → page < end → state_in old page ≡ None =
+    λ page u v. out-free old out ticket a o page (in_range-within first ticket.pages.count page u v) in
+    let source : List PageRun = (Before first old ++ ys) ++ Behind first old in
+    let all : new ≡ fold joined next source =
+    r ∙ ap (λ (l : List PageRun). fold joined l (Behind first old))
+    (q ∙ ap (λ (l : List PageRun). fold joined l ys) p ∙ sym (fold-append joined next (Before first old) ys))
+    ∙ sym (fold-append joined next (Before first old ++ ys) (Behind first old)) in
+    let b = built next source new e all
+    (placed-rising first end 0 old ys h span.rising span.ends (λ l. none-taken first end taken f l) (λ _. omega arith) free) in
+    let count : end - first ≡ ticket.pages.count = omega arith in
+    record {
+      rising = b.rising;
+      differing = b.differing;
+      states = λ page. b.states page
+          ∙ rw count at (placed-states first end 0 page old ys h span.rising span.ends (λ u v. free page u v))
+          ∙ ap (λ (s : Option PageState). if in_range first ticket.pages.count page then s else state_in old page) (all-parts-states first end page taken f);
+    }
+
+-- what holds where a span is put back
+pub record PutFacts (old : List PageRun) (out : List Ticket) (kept : ℕ) (ticket : Ticket) (taken : List TakenRun) : Type 0 where
+  pub out_is : is_out out ticket ≡ true
+  pub follow : RunsFrom ticket.pages.first (ticket.pages.first + ticket.pages.count) taken
+  pub few : length taken ≤ ticket.runs
+  pub memory : 0 < ticket.pages.count → ticket.pages.first + ticket.pages.count ≤ 2 ^ 28
+  pub ends : All RunEnds old
+  pub inner : All EndsInMemory taken
+  pub sum : sum_by places (without ticket out) + places ticket ≡ kept
+  pub fewer : length (without ticket out) + 1 ≡ length out
+  pub sides : length (Before ticket.pages.first old) + length (Behind ticket.pages.first old) ≡ length old
+  pub between : length (flat_map parts taken) ≤ 2 * length taken
+
+pub put-facts : (t : Table) (old : List PageRun) (out : List Ticket) (kept room : ℕ) (given ticket : Ticket) (taken : List TakenRun) →
+    (let own : Table = record { runs = old; out = out; room = room } in own ≡ t) → ticket ≡ given → Rising 0 old → kept ≡ sum_by places out →
+    is_out t.out given ≡ true → RunsFrom given.pages.first (given.pages.first + given.pages.count) taken → length taken ≤ given.runs →
+    (0 < given.pages.count → given.pages.first + given.pages.count ≤ 2 ^ 28) → PutFacts old out kept ticket taken
+put-facts t old out kept room given ticket taken e g h k o f n m =
+    let P : Ticket → Type 0 = λ x. PutFacts old out kept x taken in
+    let there : is_out out given ≡ true = rw (ap (λ (s : Table). s.out) e) o in
+    subst P (sym g) (record {
+      out_is = there;
+      follow = f;
+      few = n;
+      memory = m;
+      ends = rising-ends 0 old h;
+      inner = runs-fit given.pages.first (given.pages.first + given.pages.count) taken f (λ l. m (omega arith));
+      sum = places-without out given there ∙ sym k;
+      fewer = length-without out given there;
+      sides = split-length given.pages.first old;
+      between = all-parts-length taken;
+    })
+
+pub put-outside : (old new : List PageRun) (ticket : Ticket) (taken : List TakenRun) → PutBack old new ticket taken → (page : ℕ) →
+    in_range ticket.pages.first ticket.pages.count page ≡ false → state_in new page ≡ state_in old page
+put-outside old new ticket taken b page f = b.states page ∙ rw f refl
+
+pub put-states : (t : Table) (old new : List PageRun) (out : List Ticket) (room : ℕ) (span : Taken) (ticket : Ticket) (taken : List TakenRun) (page : ℕ) →
+    (let own : Table = record { runs = old; out = out; room = room } in own ≡ t) → ticket ≡ span.ticket → runs_now taken ≡ span.runs →
+    PutBack old new ticket taken →
+    state_in new page ≡ (if in_range span.ticket.pages.first span.ticket.pages.count page then state_in span.runs page else state_in t.runs page)
+put-states t old new out room span ticket taken page e g r b =
+    b.states page
+    ∙ rw (g, r, ap (λ (s : Table). state_in s.runs page) e) refl

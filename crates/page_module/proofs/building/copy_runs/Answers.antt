@@ -1,0 +1,7 @@
+use Rattle.std.proofs.Common.{◌≡◌, length, ap}
+use Rattle.page_module.proofs.RoomLemmas.{flat_map-room}
+use Rattle.page_module.proofs.building.copy_runs.Goals as goal
+
+pub copy_run-requires-clause-room : goal.copy_run-requires-clause-room
+copy_run-requires-clause-room c =
+    flat_map-room _ _ _ _ _ _ _ _ c.loop-run-test.true c.loop-run.invariant.len (rw c.deref-run-items.ensures.value c.requires.room) c.loop-run.invariant.capacity
