@@ -1,4 +1,4 @@
-use Rattle.std.specs.Prelude.{ℕ, List, [], Option, None, Some, Bool, true, ◌≡◌}
+use Rattle.std.specs.Prelude.{ℕ, List, [], Option, None, Some, Bool, true, ◌≡◌, ◌≢◌, ◌^◌, ◌<◌}
 use Rattle.guest_base.specs.Ranges.{in_range}
 use Rattle.guest_base.specs.declared.memory.PageState.TheVariants.{Pending}
 use Rattle.event_core.specs.declared.boot.Boot.{Boot}
@@ -17,7 +17,13 @@ abbrev pub BitsMeanPending : Boot → Type 0
 BitsMeanPending boot =
     (unit page : ℕ) → bit_of boot.bits unit ≡ true → in_range (unit_first boot unit) (unit_pages boot) page ≡ true → state_in boot.ram page ≡ Some Pending
 
+-- RAM lies below 2^28 pages
+abbrev pub RamIsLow : Boot → Type 0
+RamIsLow boot = (page : ℕ) → state_in boot.ram page ≢ None → page < 2 ^ 28
+
 -- a world as boot leaves it
 pub record WorldStands (w : World) : Type 0 where
   pub bits : BitsAre w.boot w.bits
   pub pending : BitsMeanPending w.boot
+  pub low : RamIsLow w.boot
+  pub some : 0 < unit_pages w.boot

@@ -2,3 +2,5 @@ pub mod OneProcessor
 pub mod StandsLemmas
 pub mod KeptLemmas
 pub mod AtLemmas
+pub mod WorkLemmas
+pub mod UnitsLemmas

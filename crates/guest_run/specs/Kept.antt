@@ -1,14 +1,20 @@
-use Rattle.std.specs.Prelude.{ℕ, List, [], Option, None, Some, Bool, false, true, ◌≡◌, ◌+◌, ◌*◌, ◌/◌, ◌<◌, ◌≤◌, length, ◌&&◌, if◌then◌else◌}
+use Rattle.std.specs.Prelude.{ℕ, List, [], Option, None, Some, Bool, false, true, ◌≡◌, ◌+◌, ◌*◌, ◌/◌, ◌<◌, ◌≤◌, length, ◌&&◌, not, if◌then◌else◌}
 use Rattle.guest_base.specs.Ranges.{in_range}
-use Rattle.guest_base.specs.Search.{any_such}
+use Rattle.guest_base.specs.Search.{any_such, count_such}
+use Rattle.guest_base.specs.declared.memory.HostRun.{HostRun}
+use Rattle.guest_base.specs.declared.memory.PageRun.{PageRun}
 use Rattle.guest_base.specs.declared.memory.Units.{Units}
 use Rattle.event_core.specs.declared.boot.Boot.{Boot}
 use Rattle.guest_base.specs.declared.memory.PageState.{PageState}
 use Rattle.event_core.specs.declared.command.Command.{Command}
 use Rattle.event_core.specs.declared.entry.Entry.{Entry}
 use Rattle.event_core.specs.declared.module_call.ModuleCall.{ModuleCall}
-use Rattle.event_core.specs.Units.{bit_of, unit_count, bit_after}
-use Rattle.guest_boot.specs.Worlds.{BitsMeanPending}
+use Rattle.event_core.specs.Units.{bit_of, unit_count, unit_pages, bit_after}
+use Rattle.event_core.specs.Calls.{state_after}
+use Rattle.event_core.specs.Acceptance.{AcceptanceSteps}
+use Rattle.event_core.specs.MemoryRows.{is_pending}
+use Rattle.page_module.specs.States.{state_in}
+use Rattle.guest_boot.specs.Worlds.{BitsMeanPending, RamIsLow}
 use Rattle.guest_run.specs.declared.memory.Memory.{Memory}
 use Rattle.guest_run.specs.Running.{At}
 use Rattle.unaccepted_bitmap.specs.BitmapValue.{Bits, guarded_in}
@@ -40,7 +46,21 @@ pub record ClearedBy (old new : Bits) (pending : ℕ → Bool) (first count : �
 
 -- the kept states of pages
 abbrev pub table_of : Memory → ℕ → Option PageState
-table_of memory page = None
+table_of memory page = state_in memory.table.runs page
+
+-- Units were worked on: their pages were taken out as they are in the table, accepted by sizes, and put back; the bits of the units
+-- without a pending page were cleared, so many of them.
+pub record WorkedOn (hosts : List HostRun) (table next : List PageRun) (bits new_bits : Bits) (run : Units) (calls : List ModuleCall) (cleared : ℕ) : Type 0 where
+  pub taken : List PageRun
+  pub left : List PageRun
+  pub out : (page : ℕ) → state_in taken page ≡ (if in_range (unit_first_of bits run.first) (run.count * unit_pages_of bits) page then state_in table page else None)
+  pub steps : AcceptanceSteps hosts (λ page. is_pending (state_in taken page)) (unit_first_of bits run.first + run.count * unit_pages_of bits) (unit_first_of bits run.first) None calls
+  pub made : (page : ℕ) → state_in left page ≡ state_after (state_in taken) calls page
+  pub back : (page : ℕ) → state_in next page ≡ (if in_range (unit_first_of bits run.first) (run.count * unit_pages_of bits) page then state_in left page else state_in table page)
+  pub unit : new_bits.unit ≡ bits.unit
+  pub base : new_bits.base ≡ bits.base
+  pub clears : ClearedBy bits new_bits (λ page. is_pending (state_in left page)) run.first run.count
+  pub count : cleared ≡ count_such (λ unit. not (any_such (λ page. is_pending (state_in left page)) (unit_first_of bits unit) (unit_pages_of bits))) run.first run.count
 
 -- the kept bitmap is the boot's, but for the bits
 abbrev pub SameBits : Boot → Option Bits → Type 0
@@ -50,7 +70,10 @@ SameBits boot (Some b) = (b.unit ≡ boot.unit) × (b.base ≡ boot.base) × (le
 -- what is kept belongs to the boot: its bitmap has the boot's units, no page is out, and the pages of an unaccepted unit were pending
 pub record KeptFor (boot : Boot) (memory : Memory) : Type 0 where
   pub same : SameBits boot memory.bits
+  pub none_out : memory.table.out ≡ []
   pub pending : BitsMeanPending boot
+  pub low : RamIsLow boot
+  pub some : 0 < unit_pages boot
 
 -- an open claim, before its run is worked on: the run's bits are set, and the bits behind it are as they were at the claim
 pub record ClaimAt (boot : Boot) (script : List Command) (entries : List Entry) (number : ℕ) (units run : Units) (cleared : ℕ) (memory : Memory) : Type 0 where

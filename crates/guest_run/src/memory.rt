@@ -1,5 +1,5 @@
 //! What is kept of a guest's memory: the states of pages, and which units are unaccepted.
-ghost use Rattle.std.specs.Prelude.{◌≡◌, ◌≢◌, ℕ, List, [], ◌++◌, ◌+◌, ◌*◌, ◌/◌, ◌^◌, ◌<◌, ◌≤◌, true, None, Option, IfOk, IfSome, not};
+ghost use Rattle.std.specs.Prelude.{◌≡◌, ◌≢◌, ℕ, List, [], ◌++◌, ◌+◌, ◌*◌, ◌/◌, ◌^◌, ◌<◌, ◌≤◌, true, None, Option, IfOk, IfSome, OnOk, not};
 ghost use Rattle.guest_base.specs.Ranges.{in_range};
 ghost use Rattle.guest_base.specs.Search.{any_such, count_such};
 ghost use Rattle.event_core.specs.declared.module_call.ModuleCall.{ModuleCall};
@@ -8,19 +8,21 @@ ghost use Rattle.event_core.specs.Units.{first_run, units_cleared, unit_count};
 ghost use Rattle.event_core.specs.MemoryRows.{AcceptsUnits};
 ghost use Rattle.page_module.specs.States.{state_in};
 ghost use Rattle.accept_sizes.specs.Accepts.{pending_of};
+ghost use Rattle.accept_sizes.specs.Ends.{stopped_at};
 ghost use Rattle.guest_run.specs.Standing.{Stands};
-ghost use Rattle.guest_run.specs.Kept.{bits_in, table_of, guarded_by, unit_pages_of, unit_first_of, ClearedBy, KeptFor};
+ghost use Rattle.guest_run.specs.Kept.{bits_in, table_of, guarded_by, unit_pages_of, unit_first_of, ClearedBy, KeptFor, WorkedOn};
 
-use event_core::{Boot, Calls};
+use accept_sizes::{CallLog, RunEnd, accept_run, most_calls};
+use event_core::{Boot, Calls, Hosts};
 use guest_base::{Page, Pages, Unit, Units};
-use page_module::{Port, Span};
+use page_module::{PageTable, Port, Span};
 use std::alloc::{AllocError, Global};
 use unaccepted_bitmap::Bitmap;
 
 /// The states of pages and the bits of unaccepted units; no bits where the map has no unaccepted descriptor.
 #[derive(Drop)]
 pub(crate) struct Memory {
-    pub(crate) spare: u64,
+    pub(crate) table: PageTable,
     pub(crate) bits: Option<Bitmap>,
 }
 
@@ -87,6 +89,7 @@ fn clear_accepted(bits: &mut Bitmap, span: &Span, run: Units) -> u64
     ensures unit { bits.new.unit ≡ bits.old.unit }
     ensures base { bits.new.base ≡ bits.old.base }
     ensures cleared { ClearedBy bits.old bits.new (pending_of span.now) run.first run.count }
+    ensures few { result ≤ run.count }
     ensures count { result ≡ count_such (λ unit. not (any_such (pending_of span.now) (unit_first_of bits.old unit) (unit_pages_of bits.old))) run.first run.count }
 {
     let mut cleared = 0;
@@ -98,6 +101,53 @@ fn clear_accepted(bits: &mut Bitmap, span: &Span, run: Units) -> u64
         }
     }
     cleared
+}
+
+/// The page at which an acceptance stopped.
+fn stopped_page(end: RunEnd) -> Option<Page>
+    ensures { result ≡ stopped_at end }
+{
+    match end {
+        RunEnd::Whole => None,
+        RunEnd::Stopped(page) => Some(page),
+    }
+}
+
+/// Takes the pages of units out, accepts them by sizes and puts them back; then clears the bits of the units
+/// without a pending page.
+fn work<P: Port>(
+    alloc: Global,
+    hosts: &Hosts,
+    table: &mut PageTable,
+    bits: &mut Bitmap,
+    port: &mut P,
+    run: Units,
+) -> Result<Worked, AllocError>
+    requires inside { run.first + run.count ≤ unit_count bits.old.bits }
+    requires end { run.first + run.count < 2 ^ 64 }
+    requires low { unit_first_of bits.old run.first + run.count * unit_pages_of bits.old ≤ 2 ^ 28 }
+    requires here { (page : ℕ) → in_range (unit_first_of bits.old run.first) (run.count * unit_pages_of bits.old) page ≡ true → state_in table.old.runs page ≢ None }
+    requires none_out { table.old.out ≡ [] }
+    ensures worked { IfOk result (λ w. WorkedOn hosts.now table.old.runs table.new.runs bits.old bits.new run w.calls w.cleared) }
+    ensures stopped { IfOk result (λ w. w.stopped ≡ stop_of w.calls) }
+    ensures few { IfOk result (λ w. w.cleared ≤ run.count) }
+    ensures out { OnOk result (table.new.out ≡ []) }
+    ensures made { IfOk result (λ w. P.made port.new ≡ P.made port.old ++ w.calls) }
+{
+    let pages = pages_of(bits, run);
+    table.reserve(alloc, 2 * pages.count + 2)?;
+    let calls = most_calls(pages.count);
+    port.reserve(alloc, calls)?;
+    let mut log = CallLog::with_room(alloc, calls)?;
+    let mut span = table.take(pages);
+    let end = accept_run(port, &mut span, hosts, &mut log);
+    let cleared = clear_accepted(bits, &span, run);
+    table.put(span);
+    Ok(Worked {
+        calls: log.into_calls(),
+        stopped: stopped_page(end),
+        cleared,
+    })
 }
 
 /// Accepts a run of unaccepted units: its pages are taken out, accepted by sizes and put back, and the bits
@@ -123,5 +173,11 @@ pub(crate) fn accept_units<P: Port>(
     ensures kept { IfOk result (λ w. KeptFor boot.now memory.new) }
     ensures made { IfOk result (λ w. P.made port.new ≡ P.made port.old ++ w.calls) }
 {
-    Err(AllocError)
+    match &mut memory.bits {
+        Some(bits) => {
+            let worked = work(alloc, &boot.hosts, &mut memory.table, bits, port, run)?;
+            Ok(worked)
+        }
+        None => unreachable!(),
+    }
 }
