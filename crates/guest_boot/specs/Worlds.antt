@@ -2,7 +2,7 @@ use Rattle.std.specs.Prelude.{ℕ, List, [], Option, None, Some, Bool, true, ◌
 use Rattle.guest_base.specs.Ranges.{in_range}
 use Rattle.guest_base.specs.declared.memory.PageState.TheVariants.{Pending}
 use Rattle.event_core.specs.declared.boot.Boot.{Boot}
-use Rattle.event_core.specs.Runs.{state_in}
+use Rattle.event_core.specs.Runs.{state_in, AreMaximalRuns}
 use Rattle.event_core.specs.Units.{bit_of, unit_first, unit_pages}
 use Rattle.unaccepted_bitmap.specs.BitmapValue.{Bits}
 use Rattle.guest_boot.specs.declared.world.World.{World}
@@ -27,3 +27,4 @@ pub record WorldStands (w : World) : Type 0 where
   pub pending : BitsMeanPending w.boot
   pub low : RamIsLow w.boot
   pub some : 0 < unit_pages w.boot
+  pub ram : AreMaximalRuns (state_in w.boot.ram) w.boot.ram

@@ -4,3 +4,5 @@ pub mod KeptLemmas
 pub mod AtLemmas
 pub mod WorkLemmas
 pub mod UnitsLemmas
+pub mod ReadyLemmas
+pub mod TurnsLemmas

@@ -38,7 +38,7 @@ use Rattle.guest_run.specs.Running.{IsMine, History, entry_for, Running}
 
 -- Histories of one processor, whose number is 0.
 
-mine-all : (boot : Boot) (moved : List Moved) → AllByRecursion (IsMine boot) moved → made_by 0 moved ≡ moved
+pub mine-all : (boot : Boot) (moved : List Moved) → AllByRecursion (IsMine boot) moved → made_by 0 moved ≡ moved
 mine-all boot [] each = refl
 mine-all boot (m ∷ moved) each = rw (eq-eqb m.entry.cpu.0 0 each.0.0) (ap (λ ms. m ∷ ms) (mine-all boot moved each.1))
 
@@ -46,7 +46,7 @@ pub placed-all : (boot : Boot) (moved : List Moved) → AllByRecursion (IsMine b
 placed-all boot [] each = tt
 placed-all boot (m ∷ moved) each = (each.0.1, placed-all boot moved each.1)
 
-all-push : {A : Type 0} (P : A → Type 0) (xs : List A) (x : A) → AllByRecursion P xs → P x → AllByRecursion P (xs ++ x ∷ [])
+pub all-push : {A : Type 0} (P : A → Type 0) (xs : List A) (x : A) → AllByRecursion P xs → P x → AllByRecursion P (xs ++ x ∷ [])
 all-push P [] x all here = (here, tt)
 all-push P (y ∷ xs) x all here = (all.0, all-push P xs x all.1 here)
 

@@ -6,8 +6,6 @@ use Rattle.guest_base.specs.declared.memory.PageRun.{PageRun}
 use Rattle.guest_base.specs.declared.memory.Units.{Units}
 use Rattle.event_core.specs.declared.boot.Boot.{Boot}
 use Rattle.guest_base.specs.declared.memory.PageState.{PageState}
-use Rattle.event_core.specs.declared.command.Command.{Command}
-use Rattle.event_core.specs.declared.entry.Entry.{Entry}
 use Rattle.event_core.specs.declared.module_call.ModuleCall.{ModuleCall}
 use Rattle.event_core.specs.Units.{bit_of, unit_count, unit_pages, bit_after}
 use Rattle.event_core.specs.Calls.{state_after}
@@ -16,7 +14,6 @@ use Rattle.event_core.specs.MemoryRows.{is_pending}
 use Rattle.page_module.specs.States.{state_in}
 use Rattle.guest_boot.specs.Worlds.{BitsMeanPending, RamIsLow}
 use Rattle.guest_run.specs.declared.memory.Memory.{Memory}
-use Rattle.guest_run.specs.Running.{At}
 use Rattle.unaccepted_bitmap.specs.BitmapValue.{Bits, guarded_in}
 
 -- The kept bitmap, where there is one.
@@ -30,6 +27,17 @@ bits_in (Some b) unit = bit_of b.bits unit
 abbrev pub guarded_by : Option Bits → ℕ → ℕ → Option Units
 guarded_by None start len = None
 guarded_by (Some b) start len = guarded_in b start len
+
+-- both, where both are there
+abbrev pub both_or_none : Option Units → Option Units → Option (Units × Units)
+both_or_none (Some units) (Some run) = Some (units, run)
+both_or_none (Some units) None = None
+both_or_none None run = None
+
+-- whether one of the units passes a test
+abbrev pub any_in : (ℕ → Bool) → Option Units → Bool
+any_in test None = false
+any_in test (Some units) = any_such test units.first units.count
 
 -- the pages of a unit, and the first of them
 abbrev pub unit_pages_of : Bits → ℕ
@@ -74,13 +82,3 @@ pub record KeptFor (boot : Boot) (memory : Memory) : Type 0 where
   pub pending : BitsMeanPending boot
   pub low : RamIsLow boot
   pub some : 0 < unit_pages boot
-
--- an open claim, before its run is worked on: the run's bits are set, and the bits behind it are as they were at the claim
-pub record ClaimAt (boot : Boot) (script : List Command) (entries : List Entry) (number : ℕ) (units run : Units) (cleared : ℕ) (memory : Memory) : Type 0 where
-  pub before : List ModuleCall
-  pub at : At boot script entries number (Some (record { block = None; units = units; run = run; before = before; cleared = cleared })) (table_of memory) (bits_in memory.bits)
-  pub some : 0 < run.count
-  pub within : run.first + run.count ≤ units.first + units.count
-  pub set : (unit : ℕ) → in_range run.first run.count unit ≡ true → bits_in memory.bits unit ≡ true
-  pub later : (unit : ℕ) → run.first + run.count ≤ unit → bits_in memory.bits unit ≡ bit_after boot before unit
-  pub few : cleared + units.first ≤ run.first

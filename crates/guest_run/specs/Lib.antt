@@ -1,3 +1,6 @@
 pub mod Standing
 pub mod Kept
 pub mod Running
+pub mod Ready
+pub mod First
+pub mod RangedCommand

@@ -1,8 +1,9 @@
 //! The run of a guest.
 #![tactic(auto)]
 
-mod command;
+mod answers;
 mod memory;
 mod one;
+mod processor;
 
 pub use one::turns;

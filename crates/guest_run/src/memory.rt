@@ -1,6 +1,8 @@
 //! What is kept of a guest's memory: the states of pages, and which units are unaccepted.
 ghost use Rattle.std.specs.Prelude.{◌≡◌, ◌≢◌, ℕ, List, [], ◌++◌, ◌+◌, ◌*◌, ◌/◌, ◌^◌, ◌<◌, ◌≤◌, true, None, Option, IfOk, IfSome, OnOk, not};
+ghost use Rattle.std.specs.Option.{ForSome, option_and_then};
 ghost use Rattle.guest_base.specs.Ranges.{in_range};
+ghost use Rattle.guest_base.specs.declared.memory.Units.{Units};
 ghost use Rattle.guest_base.specs.Search.{any_such, count_such};
 ghost use Rattle.event_core.specs.declared.module_call.ModuleCall.{ModuleCall};
 ghost use Rattle.event_core.specs.Acceptance.{stop_of};
@@ -10,7 +12,7 @@ ghost use Rattle.page_module.specs.States.{state_in};
 ghost use Rattle.accept_sizes.specs.Accepts.{pending_of};
 ghost use Rattle.accept_sizes.specs.Ends.{stopped_at};
 ghost use Rattle.guest_run.specs.Standing.{Stands};
-ghost use Rattle.guest_run.specs.Kept.{bits_in, table_of, guarded_by, unit_pages_of, unit_first_of, ClearedBy, KeptFor, WorkedOn};
+ghost use Rattle.guest_run.specs.Kept.{bits_in, table_of, guarded_by, both_or_none, any_in, unit_pages_of, unit_first_of, ClearedBy, KeptFor, WorkedOn};
 
 use accept_sizes::{CallLog, RunEnd, accept_run, most_calls};
 use event_core::{Boot, Calls, Hosts};
@@ -40,7 +42,8 @@ pub(crate) struct Worked {
 pub(crate) fn guarded_units_of(bits: &Option<Bitmap>, start: u64, len: u64) -> Option<Units>
     requires some { 1 ≤ len }
     requires end { start + len ≤ 2 ^ 40 }
-    ensures { result ≡ guarded_by bits.now start len }
+    ensures units { result ≡ guarded_by bits.now start len }
+    ensures end { ForSome result (λ u. u.first + u.count < 2 ^ 64) }
 {
     match bits {
         Some(bits) => bits.claim_units(start, len),
@@ -55,6 +58,39 @@ pub(crate) fn run_from(bits: &Option<Bitmap>, from: u64, end: u64) -> Option<Uni
     match bits {
         Some(bits) => bits.next_run(Unit(from), Unit(end)),
         None => None,
+    }
+}
+
+/// The first run of unaccepted units among units.
+pub(crate) fn first_run_of(bits: &Option<Bitmap>, units: Option<Units>) -> Option<Units>
+    requires { ForSome units (λ u. u.first + u.count < 2 ^ 64) }
+    ensures { result ≡ option_and_then (λ (u : Units). first_run (bits_in bits.now) u.first (u.first + u.count)) units }
+{
+    match units {
+        Some(units) => run_from(bits, units.first, units.first + units.count),
+        None => None,
+    }
+}
+
+/// Both, where both are there.
+pub(crate) fn both_of(units: Option<Units>, run: Option<Units>) -> Option<(Units, Units)>
+    ensures { result ≡ both_or_none units run }
+{
+    match (units, run) {
+        (Some(units), Some(run)) => Some((units, run)),
+        _ => None,
+    }
+}
+
+/// Whether a range of memory has an unaccepted guarded unit.
+pub(crate) fn has_unaccepted(bits: &Option<Bitmap>, start: u64, len: u64) -> bool
+    requires some { 1 ≤ len }
+    requires end { start + len ≤ 2 ^ 40 }
+    ensures { result ≡ any_in (bits_in bits.now) (guarded_by bits.now start len) }
+{
+    match bits {
+        Some(bits) => bits.contains(start, len),
+        None => false,
     }
 }
 

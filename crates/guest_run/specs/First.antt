@@ -1,0 +1,9 @@
+use Rattle.std.specs.Prelude.{ℕ, List, [], ◌∷◌}
+use Rattle.event_core.specs.declared.command.Command.{Command}
+use Rattle.event_core.specs.declared.command.Command.TheVariants.{Accept, Query}
+
+-- the commands that can be run today
+abbrev pub IsFirstCommand : Command → Type 0
+IsFirstCommand (Accept start len) = Unit {0}
+IsFirstCommand (Query start len) = Unit {0}
+IsFirstCommand _ = ⊥
