@@ -3,4 +3,4 @@
 
 mod world;
 
-pub use world::{World, boot, is_first_form};
+pub use world::{World, boot};

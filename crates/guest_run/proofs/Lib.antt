@@ -6,3 +6,6 @@ pub mod WorkLemmas
 pub mod UnitsLemmas
 pub mod ReadyLemmas
 pub mod TurnsLemmas
+pub mod PrintLemmas
+pub mod RunLemmas
+pub mod ScriptLemmas

@@ -126,9 +126,9 @@ running-start boot scripts = record { legal = tt; history = record { each = tt; 
 
 -- the run goes on by a step that may be made
 pub running-push : (boot : Boot) (scripts : List (List Command)) (entries : List Entry) (clock : ℕ) (s : Step) → Running boot scripts entries clock
-  → next_step boot scripts 0 (with_moved boot entries) (entries_of (at_place (place_of boot s.event) (with_moved boot entries))) (calls_in s.event) ≡ Some s
-  → CallsFit boot (entries_of (at_place (place_of boot s.event) (with_moved boot entries))) s.event
-  → Running boot scripts (entries ++ entry_for clock (replied (with_moved boot entries)) boot s ∷ []) (clock + 1)
+    → next_step boot scripts 0 (with_moved boot entries) (entries_of (at_place (place_of boot s.event) (with_moved boot entries))) (calls_in s.event) ≡ Some s
+    → CallsFit boot (entries_of (at_place (place_of boot s.event) (with_moved boot entries))) s.event
+    → Running boot scripts (entries ++ entry_for clock (replied (with_moved boot entries)) boot s ∷ []) (clock + 1)
 running-push boot scripts entries clock s run next fits =
     let entry = entry_for clock (replied (with_moved boot entries)) boot s in
     let here = follows boot scripts (with_moved boot entries) clock s run.history next fits in
@@ -192,7 +192,7 @@ clear-way boot memory (Some units) one free =
 
 -- an acceptance claims its guarded units
 pub claim-next : (boot : Boot) (script : List Command) (entries : List Entry) (start len : ℕ) → boot.cpus ≡ 1 → Placed boot entries → slice_get script (replied (with_moved boot entries)) ≡ Some (command.Accept start len) → memory_range_refusal start len ≡ None → claim_of boot entries 0 ≡ None
-  → next_step boot (script ∷ []) 0 (with_moved boot entries) (there boot entries) [] ≡ Some (record { event = event.Claim None (guarded_units boot start len) (run_of_claim boot entries (guarded_units boot start len)); reply = claim_reply (run_of_claim boot entries (guarded_units boot start len)) })
+    → next_step boot (script ∷ []) 0 (with_moved boot entries) (there boot entries) [] ≡ Some (record { event = event.Claim None (guarded_units boot start len) (run_of_claim boot entries (guarded_units boot start len)); reply = claim_reply (run_of_claim boot entries (guarded_units boot start len)) })
 claim-next boot script entries start len one placed now fine free =
     let units = guarded_units boot start len in
     let memory = there boot entries in
@@ -200,12 +200,12 @@ claim-next boot script entries start len one placed now fine free =
     step-is boot script (with_moved boot entries) memory (command.Accept start len) [] now fine
     ∙ ap (λ claim. accept_step boot memory claim units []) none
     ∙ ap (option_map (λ e. let s : Step = record { event = e; reply = claim_reply (run_of_claim boot memory units) } in s))
-        (ap (λ way. elim way as (λ _. Option Event) [ None ↦ Some (event.Claim None units (run_of_claim boot memory units)) | Some _ ↦ None ]) (clear-way boot memory units one none))
+    (ap (λ way. elim way as (λ _. Option Event) [ None ↦ Some (event.Claim None units (run_of_claim boot memory units)) | Some _ ↦ None ]) (clear-way boot memory units one none))
     ∙ ap (λ run. Some (let s : Step = record { event = event.Claim None units run; reply = claim_reply run } in s)) (there-run boot entries units placed)
 
 -- and reports each run
 pub report-next : (boot : Boot) (script : List Command) (entries : List Entry) (start len : ℕ) (claim : Claimed) (calls : List ModuleCall) → Placed boot entries → slice_get script (replied (with_moved boot entries)) ≡ Some (command.Accept start len) → memory_range_refusal start len ≡ None → claim_of boot entries 0 ≡ Some claim
-  → next_step boot (script ∷ []) 0 (with_moved boot entries) (there boot entries) calls ≡ Some (record { event = report_event boot claim calls; reply = report_reply (stop_of calls) (next_run boot claim (stop_of calls)) (cleared_by boot entries claim calls) })
+    → next_step boot (script ∷ []) 0 (with_moved boot entries) (there boot entries) calls ≡ Some (record { event = report_event boot claim calls; reply = report_reply (stop_of calls) (next_run boot claim (stop_of calls)) (cleared_by boot entries claim calls) })
 report-next boot script entries start len claim calls placed now fine has =
     let units = guarded_units boot start len in
     let memory = there boot entries in
@@ -224,7 +224,7 @@ there-unaccepted boot entries (Some units) placed = ap (λ calls. any_such (bit_
 
 -- a query tells whether a bit is set
 pub query-next : (boot : Boot) (script : List Command) (entries : List Entry) (start len : ℕ) → Placed boot entries → slice_get script (replied (with_moved boot entries)) ≡ Some (command.Query start len) → memory_range_refusal start len ≡ None
-  → next_step boot (script ∷ []) 0 (with_moved boot entries) (there boot entries) [] ≡ Some (record { event = event.Asked (some_unaccepted boot entries (guarded_units boot start len)); reply = Some (reply.Query (some_unaccepted boot entries (guarded_units boot start len))) })
+    → next_step boot (script ∷ []) 0 (with_moved boot entries) (there boot entries) [] ≡ Some (record { event = event.Asked (some_unaccepted boot entries (guarded_units boot start len)); reply = Some (reply.Query (some_unaccepted boot entries (guarded_units boot start len))) })
 query-next boot script entries start len placed now fine =
     let units = guarded_units boot start len in
     step-is boot script (with_moved boot entries) (there boot entries) (command.Query start len) [] now fine

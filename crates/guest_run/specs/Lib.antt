@@ -4,3 +4,10 @@ pub mod Running
 pub mod Ready
 pub mod First
 pub mod RangedCommand
+pub mod Words
+pub mod Views
+pub mod Replies
+pub mod Bounds
+pub mod Stops
+pub mod Recordings
+pub mod Ends

@@ -1,10 +1,10 @@
 use Rattle.std.proofs.Common.{◌≡◌, ◌≢◌, ℕ, ◌+◌, ◌-◌, ◌*◌, ◌/◌, ◌%◌, ◌^◌, ◌<◌, ◌≤◌, min, Bool, true, false, List, Some, length, get_or, inl, inr, refl, sym, ◌∙◌, ap, arith, get_or-set_same, get_or-set_other, w8, mul-le-mul_right, length-set}
-use Rattle.std.specs.Prelude.{if◌then◌else◌, ◌==◌, ◌&&◌, bit_and, nat_lt}
+use Rattle.std.specs.Prelude.{if◌then◌else◌, ◌==◌, ◌&&◌, ◌||◌, bit_and, bit_or, nat_lt}
 use Rattle.std.specs.Int.{bit_at, bit_not}
-use Rattle.std.proofs.Math.Bool.{and-false}
+use Rattle.std.proofs.Math.Bool.{and-false, or-true, or-false}
 use Rattle.std.proofs.Math.ListN.{set}
 use Rattle.std.proofs.lemmas.Bool.{cases_Bool, cases_lt, lt-ltb, le-ltb, eqb-true, eqb-false}
-use Rattle.std.proofs.lemmas.Nat.Bits.{bit_at_clear_same, bit_at_clear_other}
+use Rattle.std.proofs.lemmas.Nat.Bits.{bit_at_clear_same, bit_at_clear_other, bit_at_set_same, bit_at_set_other}
 use Rattle.std.proofs.lemmas.Grind.{div_ceil_times}
 use Rattle.event_core.specs.Units.{bit_of, unit_count, units_between}
 
@@ -100,4 +100,37 @@ bit_of-cleared xs unit k value below is =
             | inr other ↦ byte_bit-set_other xs unit value k (λ e. eqb-false (k / 8) (unit / 8) other e)
           ])
           ∙ sym (ap (λ b. if b then false else bit_of xs k) f))
+    ]
+
+-- the bits after one byte was replaced by itself with one more bit
+pub bit_of-set : (xs : List ℕ) (unit k value : ℕ) → unit < unit_count xs
+    → value ≡ bit_or (get_or xs (unit / 8) 0) (1 * 2 ^ (unit % 8) % 2 ^ 8)
+    → bit_of (set xs (unit / 8) value) k ≡ (bit_of xs k || (k == unit))
+bit_of-set xs unit k value below is =
+    let byte = get_or xs (unit / 8) 0 in
+    let within : unit % 8 < 8 = omega arith in
+    let size = length-set xs (unit / 8) value in
+    elim (cases_Bool (k == unit)) [
+      | inl t ↦
+          (let e : k ≡ unit = eqb-true k unit t in
+          let same : k / 8 ≡ unit / 8 = omega arith in
+          let inside : k < unit_count (set xs (unit / 8) value) = omega arith in
+          let bit : bit_at value (k % 8) ≡ 1 =
+          ap (λ n. bit_at value (n % 8)) e ∙ ap (λ v. bit_at v (unit % 8)) is ∙ bit_at_set_same w8 byte (unit % 8) within
+          in
+          bit_of-one (set xs (unit / 8) value) k inside (byte_bit-set_same xs unit value below k same ∙ bit)
+          ∙ sym (ap (λ b. bit_of xs k || b) t ∙ or-true (bit_of xs k)))
+      | inr f ↦
+          (let ne : k ≢ unit = λ e. eqb-false k unit f e in
+          bit_of-same xs (set xs (unit / 8) value) k size
+          (elim (cases_Bool (k / 8 == unit / 8)) [
+            | inl t ↦
+                (let e : k / 8 ≡ unit / 8 = eqb-true (k / 8) (unit / 8) t in
+                byte_bit-set_same xs unit value below k e
+                ∙ ap (λ v. bit_at v (k % 8)) is
+                ∙ bit_at_set_other w8 byte (unit % 8) within (k % 8) (other_place unit k ne e)
+                ∙ sym (ap (λ i. bit_at (get_or xs i 0) (k % 8)) e))
+            | inr other ↦ byte_bit-set_other xs unit value k (λ e. eqb-false (k / 8) (unit / 8) other e)
+          ])
+          ∙ sym (ap (λ b. bit_of xs k || b) f ∙ or-false (bit_of xs k)))
     ]

@@ -10,14 +10,15 @@ pub record Bits : Type 0 where
   pub base : ℕ
   pub bits : List ℕ
 
--- what holds of every bitmap: a unit is whole pages and at most 2 MiB, the base stands on a unit's border, and memory's end is
--- less than eight units below the bitmap's (own bound, after the size of Linux's unaccepted table)
+-- what holds of every bitmap: a unit is whole pages and at most 2 MiB, the base stands on a unit's border within memory, and less
+-- than a byte of bits lies behind memory's end (after the size of Linux's unaccepted table)
 pub record IsBitmap (b : Bits) : Type 0 where
   pub some : 0 < b.unit
   pub whole : b.unit % 4096 ≡ 0
   pub small : b.unit ≤ 2097152
   pub aligned : b.base % b.unit ≡ 0
-  pub below : b.base + unit_count b.bits * b.unit ≤ 2 ^ 40 + 8 * b.unit
+  pub low : b.base ≤ 2 ^ 40
+  pub below : b.base + unit_count b.bits * b.unit < 2 ^ 40 + 8 * b.unit
 
 -- the guarded units of len bytes from the address start on
 abbrev pub guarded_in : Bits → ℕ → ℕ → Option Units

@@ -1,1 +1,2 @@
 pub mod BitmapValue
+pub mod StubMap

@@ -5,6 +5,8 @@ ghost use Rattle.unaccepted_bitmap.specs.BitmapValue.{Bits, IsBitmap, ClearsBits
 
 use crate::bytes::{clear_units, run_of_set};
 use crate::guard::guarded_units;
+use crate::stub::{UNIT, stub_bits, unaccepted};
+use efi_map::GuestMap;
 use guest_base::{Bytes, Unit, Units};
 use std::alloc::{AllocError, Global};
 use std::marker::Model;
@@ -29,6 +31,27 @@ impl Model for Bitmap {
 }
 
 impl Bitmap {
+    ghost use Rattle.event_core.specs.Map.{MapRules};
+    ghost use Rattle.unaccepted_bitmap.specs.StubMap.{StubBitmap};
+
+    /// The bitmap that the boot stub makes of a map: a unit's bit is set where the unit of 2 MiB lies wholly in an unaccepted
+    /// descriptor of two units or more. None exactly where the map has no unaccepted descriptor.
+    pub fn of_map(alloc: Global, map: &GuestMap) -> Result<Option<Bitmap>, AllocError>
+        requires { MapRules map.now.descriptors map.now.hosts }
+        ensures { IfOk result (StubBitmap map.now.descriptors) }
+    {
+        let descriptors = unaccepted(alloc, map.descriptors.as_slice())?;
+        if descriptors.is_empty() {
+            return Ok(None);
+        }
+        let (base, bits) = stub_bits(alloc, &descriptors)?;
+        Ok(Some(Bitmap {
+            unit: UNIT,
+            base,
+            bits,
+        }))
+    }
+
     /// The bytes of a unit.
     pub fn unit(&self) -> u64
         ensures value { result ≡ self.now.unit }

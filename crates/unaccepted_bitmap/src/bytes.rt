@@ -1,8 +1,9 @@
 //! Bits in bytes: bit k mod 8 of byte k / 8 is unit k.
-ghost use Rattle.std.specs.Prelude.{◌≡◌, ℕ, ◌+◌, ◌-◌, ◌^◌, ◌<◌, ◌≤◌, length, false, if◌then◌else◌, ◌==◌};
+ghost use Rattle.std.specs.Prelude.{◌≡◌, ℕ, ◌+◌, ◌-◌, ◌^◌, ◌<◌, ◌≤◌, length, false, if◌then◌else◌, ◌==◌, ◌||◌};
 ghost use Rattle.guest_base.specs.Search.{first_such, row_length};
 ghost use Rattle.event_core.specs.Units.{bit_of, unit_count, first_run};
 ghost use Rattle.unaccepted_bitmap.specs.BitmapValue.{ClearsBits};
+ghost use Rattle.unaccepted_bitmap.specs.StubMap.{SetsBits};
 
 use guest_base::Units;
 
@@ -71,4 +72,24 @@ fn clear_unit(bytes: &mut Vec<u8>, unit: u64)
     ensures each { (k : ℕ) → bit_of bytes.new.items k ≡ (if k == unit then false else bit_of bytes.old.items k) }
 {
     bytes[(unit / 8) as usize] &= !(1 << (unit % 8));
+}
+
+/// Sets the bits of these units.
+pub fn set_units(bytes: &mut Vec<u8>, units: Units)
+    requires inside { units.first + units.count ≤ unit_count bytes.old.items }
+    requires room { unit_count bytes.old.items < 2 ^ 64 }
+    ensures { SetsBits bytes.old.items bytes.new.items units }
+{
+    let after = units.first + units.count;
+    for unit in units.first..after {
+        set_unit(bytes, unit);
+    }
+}
+
+fn set_unit(bytes: &mut Vec<u8>, unit: u64)
+    requires { unit < unit_count bytes.old.items }
+    ensures size { length bytes.new.items ≡ length bytes.old.items }
+    ensures each { (k : ℕ) → bit_of bytes.new.items k ≡ (bit_of bytes.old.items k || (k == unit)) }
+{
+    bytes[(unit / 8) as usize] |= 1 << (unit % 8);
 }

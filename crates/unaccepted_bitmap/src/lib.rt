@@ -4,5 +4,10 @@
 mod bitmap;
 mod bytes;
 mod guard;
+mod stub;
 
 pub use bitmap::Bitmap;
+pub use stub::early;
+
+#[cfg(test)]
+mod tests;

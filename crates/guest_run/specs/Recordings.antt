@@ -1,0 +1,43 @@
+use Rattle.std.specs.Prelude.{ℕ, List, [], ◌∷◌, Option, None, Some, Ok, ◌≡◌}
+use Rattle.std.specs.Option.{option_map}
+use Rattle.event_core.specs.declared.boot.Boot.{Boot}
+use Rattle.event_core.specs.declared.boot.Recorded.{Recorded}
+use Rattle.event_core.specs.Boot.{BootRight}
+use Rattle.event_core.specs.Legal.{Whole}
+use Rattle.event_core.specs.Turns.{Turned}
+use Rattle.event_core.specs.Printed.{Printed}
+use Rattle.efi_map.specs.declared.map.GuestMap.{GuestMap}
+use Rattle.efi_map.specs.MapFile.{map_of}
+use Rattle.guest_io.specs.Writing.{appended}
+use Rattle.guest_script.specs.First.{first_script_of}
+use Rattle.guest_run.specs.Words.{Named, named_by}
+
+-- What is promised of a recorded run.
+
+-- boot made this of the map that the bytes hold: no pool, one area and one processor
+abbrev pub BootedFrom : List ℕ → Boot → Type 0
+BootedFrom bytes boot = (map : GuestMap) × (map_of bytes ≡ Ok map) × BootRight map.descriptors map.hosts 0 1 1 boot
+
+-- the scripts are the one script that the bytes hold
+abbrev pub ScriptedBy : List ℕ → Recorded → Type 0
+ScriptedBy bytes r = option_map (λ script. script ∷ []) (first_script_of bytes) ≡ Some r.scripts
+
+-- The run is of the files that are named, wherever it is told what they hold: the order file is empty, boot is that of the map,
+-- and the scripts are those of the script file.
+pub record BootedBy (holds : List ℕ → Option (List ℕ)) (named : Named) (r : Recorded) : Type 0 where
+  pub order : (bytes : List ℕ) → holds named.order ≡ Some bytes → bytes ≡ []
+  pub map : (bytes : List ℕ) → holds named.map ≡ Some bytes → BootedFrom bytes r.boot
+  pub scripts : (bytes : List ℕ) → holds named.script ≡ Some bytes → ScriptedBy bytes r
+
+-- the words name the files of the run
+abbrev pub Booted : (List ℕ → Option (List ℕ)) → List (List ℕ) → Recorded → Type 0
+Booted holds words r = (named : Named) × (named_by words ≡ Some named) × BootedBy holds named r
+
+-- One history in which every command stands once in its processor's order, made by turns in an order.
+pub record History (order : List ℕ) (r : Recorded) : Type 0 where
+  pub whole : Whole r.boot r.scripts r.entries
+  pub turned : Turned r.boot r.scripts order r.entries
+
+-- where it is told what was written, it is what was written before and then a printed text of the run, without the order
+abbrev pub PrintedAfter : Recorded → Option (List ℕ) → Option (List ℕ) → Type 0
+PrintedAfter r before after = (text : List ℕ) × Printed r.boot r.entries None text × (after ≡ appended before text)

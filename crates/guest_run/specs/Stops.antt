@@ -1,0 +1,80 @@
+use Rattle.std.specs.Prelude.{ℕ, List, [], ◌++◌, codes, Option, Some, ◌≡◌}
+use Rattle.std.specs.Fmt.{decimal}
+use Rattle.efi_map.specs.declared.fault.MapFault.{MapFault}
+use Rattle.efi_map.specs.declared.fault.MapFault.TheVariants as fault
+use Rattle.event_core.specs.Texts.{line}
+use Rattle.guest_run.specs.declared.stop.Cause.{Cause}
+use Rattle.guest_run.specs.declared.stop.Cause.TheVariants.{TooLong, Later, OfMap}
+use Rattle.guest_run.specs.declared.stop.InputFile.{InputFile}
+use Rattle.guest_run.specs.declared.stop.InputFile.TheVariants.{Order, Map, Script}
+use Rattle.guest_run.specs.declared.stop.Stop.{Stop}
+use Rattle.guest_run.specs.declared.stop.Stop.TheVariants.{Refused, NotRead, NoMemory}
+use Rattle.guest_io.specs.Writing.{appended}
+use Rattle.guest_run.specs.Words.{Named, named_by}
+
+-- Why a run ends before its text (own rule).
+
+-- a file couldn't be read
+abbrev pub IsNotRead : Stop → Type 0
+IsNotRead (NotRead file) = Unit {0}
+IsNotRead (Refused file cause) = ⊥
+IsNotRead NoMemory = ⊥
+
+-- the name of a file
+abbrev pub name_of : Named → InputFile → List ℕ
+name_of named Order = named.order
+name_of named Map = named.map
+name_of named Script = named.script
+
+-- what is wrong with a map file
+abbrev pub map_fault_text : MapFault → List ℕ
+map_fault_text (fault.Short length) = codes "short " ++ decimal length
+map_fault_text fault.BadMagic = codes "magic"
+map_fault_text (fault.BadSize size) = codes "size " ++ decimal size
+map_fault_text (fault.BadVersion version) = codes "version " ++ decimal version
+map_fault_text (fault.TooMany count) = codes "count " ++ decimal count
+map_fault_text (fault.Unaligned number) = codes "unaligned " ++ decimal number
+map_fault_text (fault.TooHigh number) = codes "high " ++ decimal number
+map_fault_text (fault.Overlap earlier number) = codes "overlap " ++ (decimal earlier ++ (codes " " ++ decimal number))
+map_fault_text fault.TooMuchRam = codes "ram"
+map_fault_text (fault.BadHost number) = codes "host " ++ decimal number
+map_fault_text (fault.Trailing place) = codes "trailing " ++ decimal place
+map_fault_text fault.NoMemory = codes "memory"
+
+-- why a file is refused
+abbrev pub cause_text : Cause → List ℕ
+cause_text TooLong = codes "too long"
+cause_text Later = codes "later"
+cause_text (OfMap f) = map_fault_text f
+
+-- the line of a refused file
+abbrev pub refused_line : List ℕ → Cause → List ℕ
+refused_line name cause = codes "refused: " ++ (name ++ (codes ": " ++ line (cause_text cause)))
+
+-- the line of a file that couldn't be read
+abbrev pub not_read_line : List ℕ → List ℕ
+not_read_line name = line (codes "failed: read " ++ name)
+
+-- the line of words that aren't in the grammar
+abbrev pub words_line : List ℕ
+words_line = line (codes "refused: words")
+
+-- the line of a stop; there is none for want of memory
+abbrev pub stop_line : Named → Stop → List ℕ
+stop_line named (Refused file cause) = refused_line (name_of named file) cause
+stop_line named (NotRead file) = not_read_line (name_of named file)
+stop_line named NoMemory = []
+
+-- the status of a stop
+abbrev pub status_of : Stop → ℕ
+status_of (Refused file cause) = 3
+status_of (NotRead file) = 4
+status_of NoMemory = 6
+
+-- the status is that of a stop, and what was written is what was written before and then its line
+abbrev pub StoppedAs : Named → ℕ → Option (List ℕ) → Option (List ℕ) → Type 0
+StoppedAs named status before after = (stop : Stop) × (status ≡ status_of stop) × (after ≡ appended before (stop_line named stop))
+
+-- the same, at a file that the words name
+abbrev pub StoppedAt : List (List ℕ) → ℕ → Option (List ℕ) → Option (List ℕ) → Type 0
+StoppedAt words status before after = (named : Named) × (named_by words ≡ Some named) × StoppedAs named status before after

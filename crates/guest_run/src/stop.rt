@@ -1,0 +1,118 @@
+//! Why a run ends before its text.
+ghost use Rattle.std.specs.Prelude.{◌≡◌, ◌≢◌, ◌++◌, codes, string_bytes, IfOk};
+ghost use Rattle.guest_run.specs.declared.stop.Stop.TheVariants.{NoMemory};
+ghost use Rattle.guest_run.specs.Stops.{map_fault_text, cause_text, refused_line, not_read_line, status_of, stop_line};
+ghost use Rattle.guest_run.specs.Views.{seen};
+
+use crate::words::Names;
+use efi_map::MapFault;
+use std::alloc::{AllocError, Global};
+
+/// A file that the words name.
+#[derive(Clone, Copy, Debug, PartialEq, Eq)]
+pub(crate) enum InputFile {
+    Order,
+    Map,
+    Script,
+}
+
+/// Why a file is refused.
+#[derive(Clone, Copy, Debug, PartialEq, Eq)]
+pub(crate) enum Cause {
+    /// It has more bytes than its limit.
+    TooLong,
+    /// It isn't of the form that is run today.
+    Later,
+    /// It isn't a map file.
+    OfMap(MapFault),
+}
+
+/// Why a run ends before its text.
+#[derive(Clone, Copy, Debug, PartialEq, Eq)]
+pub(crate) enum Stop {
+    /// The file is refused; all files before it are read and good.
+    Refused(InputFile, Cause),
+    /// The file couldn't be read.
+    NotRead(InputFile),
+    /// Want of memory.
+    NoMemory,
+}
+
+impl Stop {
+    /// The status that the program ends with.
+    pub(crate) fn status(self) -> u8
+        ensures { result ≡ status_of self }
+    {
+        match self {
+            Stop::Refused(_, _) => 3,
+            Stop::NotRead(_) => 4,
+            Stop::NoMemory => 6,
+        }
+    }
+}
+
+impl From<AllocError> for Stop {
+    ghost from_gives = { λ _ e. e ≡ NoMemory };
+
+    fn from(_e: AllocError) -> Stop {
+        Stop::NoMemory
+    }
+}
+
+/// What is wrong with a map file.
+fn print_map_fault(alloc: Global, fault: MapFault) -> Result<String, AllocError>
+    ensures { IfOk result (λ text. string_bytes text ≡ map_fault_text fault) }
+{
+    match fault {
+        MapFault::Short(length) => format!(in alloc; "short {length}"),
+        MapFault::BadMagic => String::from_str(alloc, "magic"),
+        MapFault::BadSize(size) => format!(in alloc; "size {size}"),
+        MapFault::BadVersion(version) => format!(in alloc; "version {version}"),
+        MapFault::TooMany(count) => format!(in alloc; "count {count}"),
+        MapFault::Unaligned(number) => format!(in alloc; "unaligned {number}"),
+        MapFault::TooHigh(number) => format!(in alloc; "high {number}"),
+        MapFault::Overlap(earlier, number) => format!(in alloc; "overlap {earlier} {number}"),
+        MapFault::TooMuchRam => String::from_str(alloc, "ram"),
+        MapFault::BadHost(number) => format!(in alloc; "host {number}"),
+        MapFault::Trailing(place) => format!(in alloc; "trailing {place}"),
+        MapFault::NoMemory => String::from_str(alloc, "memory"),
+    }
+}
+
+/// Why a file is refused, in words.
+fn print_cause(alloc: Global, cause: Cause) -> Result<String, AllocError>
+    ensures { IfOk result (λ text. string_bytes text ≡ cause_text cause) }
+{
+    match cause {
+        Cause::TooLong => String::from_str(alloc, "too long"),
+        Cause::Later => String::from_str(alloc, "later"),
+        Cause::OfMap(fault) => print_map_fault(alloc, fault),
+    }
+}
+
+/// The line of a stop. Want of memory has none, and answers want of memory again.
+pub(crate) fn print_stop(alloc: Global, names: &Names<'_>, stop: Stop) -> Result<String, AllocError>
+    ensures line { IfOk result (λ text. string_bytes text ≡ stop_line (seen names.now) stop) }
+    ensures memory { IfOk result (λ _. stop ≢ Stop.NoMemory) }
+{
+    match stop {
+        Stop::Refused(file, cause) => print_refused(alloc, names.of(file), cause),
+        Stop::NotRead(file) => print_not_read(alloc, names.of(file)),
+        Stop::NoMemory => Err(AllocError),
+    }
+}
+
+/// The line of a refused file.
+fn print_refused(alloc: Global, name: &str, cause: Cause) -> Result<String, AllocError>
+    ensures { IfOk result (λ text. string_bytes text ≡ refused_line name.now cause) }
+{
+    let cause = print_cause(alloc, cause)?;
+    format!(in alloc; "refused: {name}: {cause}\n")
+}
+
+/// The line of a file that couldn't be read.
+fn print_not_read(alloc: Global, name: &str) -> Result<String, AllocError>
+    ensures { IfOk result (λ text. string_bytes text ≡ not_read_line name.now) }
+{
+    format!(in alloc; "failed: read {name}\n")
+}
