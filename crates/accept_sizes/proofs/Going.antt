@@ -215,8 +215,8 @@ IsHonest hosts place level answer = (answer ≡ Failed) ⊎ (answer ≡ answer_b
 
 -- the step that a call makes from a place
 pub step-on : (hosts : List HostRun) (old : Taken) (from : ℕ) (tried : Option Level) (place left : ℕ) (level : Level) (answer : PortAnswer) (rest : List ModuleCall) → tried ≢ Some Small → FoundRun old from tried place left → level ≡ level_below place left tried → IsHonest hosts place level answer
-  → AcceptanceSteps hosts (pending_of old) (span_end old) (goes_on_at (accept_call place level answer)) (tried_at (accept_call place level answer)) rest
-  → AcceptanceSteps hosts (pending_of old) (span_end old) from tried (accept_call place level answer ∷ rest)
+    → AcceptanceSteps hosts (pending_of old) (span_end old) (goes_on_at (accept_call place level answer)) (tried_at (accept_call place level answer)) rest
+    → AcceptanceSteps hosts (pending_of old) (span_end old) from tried (accept_call place level answer ∷ rest)
 step-on hosts old from tried place left level answer rest not_small found is honest steps =
     (found-place old from tried place left found, found-level old from tried place left not_small found ∙ ap Some (sym is), record { kind = refl; count = refl }, honest, steps)
 
@@ -252,7 +252,7 @@ states-push old calls call page = ap (λ (f : ℕ → Option PageState). f page)
 
 -- what begins the calls of an acceptance, with one more call
 steps-push : (hosts : List HostRun) (old now : Taken) (from next : ℕ) (tried now_tried : Option Level) (calls : List ModuleCall) (call : ModuleCall) → Going hosts old now from tried calls → ((rest : List ModuleCall) → AcceptanceSteps hosts (pending_of old) (span_end old) next now_tried rest → AcceptanceSteps hosts (pending_of old) (span_end old) from tried (call ∷ rest))
-  → (rest : List ModuleCall) → AcceptanceSteps hosts (pending_of old) (span_end old) next now_tried rest → AcceptanceSteps hosts (pending_of old) (span_end old) old.ticket.pages.first None ((calls ++ call ∷ []) ++ rest)
+    → (rest : List ModuleCall) → AcceptanceSteps hosts (pending_of old) (span_end old) next now_tried rest → AcceptanceSteps hosts (pending_of old) (span_end old) old.ticket.pages.first None ((calls ++ call ∷ []) ++ rest)
 steps-push hosts old now from next tried now_tried calls call going on rest steps =
     let P : List ModuleCall → Type 0 = AcceptanceSteps hosts (pending_of old) (span_end old) old.ticket.pages.first None in
     subst P (sym (push-all calls call rest)) (going.steps (call ∷ rest) (on rest steps))
@@ -261,7 +261,7 @@ stop-push : (hosts : List HostRun) (old now : Taken) (from : ℕ) (tried : Optio
 stop-push hosts old now from tried calls call going passes rest = ap stop_of (push-all calls call rest) ∙ going.unstopped (call ∷ rest) ∙ stop_past call rest passes
 
 done_at : (hosts : List HostRun) (old now new : Taken) (from : ℕ) (tried : Option Level) (calls : List ModuleCall) (place left : ℕ) (level : Level) → Going hosts old now from tried calls → FoundRun old from tried place left → level ≡ level_below place left tried → IsHonest hosts place level AnsweredOk → Becomes Accepted now new place (level_pages level)
-  → Going hosts old new (place + level_pages level) None (calls ++ accept_call place level AnsweredOk ∷ [])
+    → Going hosts old new (place + level_pages level) None (calls ++ accept_call place level AnsweredOk ∷ [])
 done_at hosts old now new from tried calls place left level going found is honest becomes =
     let call = accept_call place level AnsweredOk in
     let low = found.low in
@@ -280,7 +280,7 @@ done_at hosts old now new from tried calls place left level going found is hones
 
 -- after a call that was done the acceptance goes on behind its pages
 pub going-done : (hosts : List HostRun) (old now new : Taken) (from : ℕ) (tried : Option Level) (calls : List ModuleCall) (place left : ℕ) (level : Level) (answer : PortAnswer) → Going hosts old now from tried calls → FoundRun old from tried place left → IsFirstPending now from (record { first = place; count = left }) → level ≡ level_below place left tried → IsHonest hosts place level answer → answer ≡ AnsweredOk → Becomes Accepted now new place (level_pages level)
-  → Going hosts old new (place + level_pages level) None (calls ++ accept_call place level answer ∷ [])
+    → Going hosts old new (place + level_pages level) None (calls ++ accept_call place level answer ∷ [])
 going-done hosts old now new from tried calls place left level answer going found run is honest done becomes =
     let P : PortAnswer → Type 0 = λ a. IsHonest hosts place level a → Going hosts old new (place + level_pages level) None (calls ++ accept_call place level a ∷ []) in
     subst P (sym done) (λ honest'. done_at hosts old now new from tried calls place left level going found is honest' becomes) honest
@@ -319,7 +319,7 @@ found-may hosts old now from tried calls place left level going run is =
 
 -- after a call that wasn't done the acceptance goes on at its place
 pub going-failed : (hosts : List HostRun) (old now new : Taken) (from : ℕ) (tried : Option Level) (calls : List ModuleCall) (place left : ℕ) (level : Level) (answer : PortAnswer) → Going hosts old now from tried calls → FoundRun old from tried place left → IsFirstPending now from (record { first = place; count = left }) → level ≡ level_below place left tried → IsHonest hosts place level answer → answer ≢ AnsweredOk → new ≡ now → level ≢ Small
-  → Going hosts old new place (Some level) (calls ++ accept_call place level answer ∷ [])
+    → Going hosts old new place (Some level) (calls ++ accept_call place level answer ∷ [])
 going-failed hosts old now new from tried calls place left level answer going found run is honest failed same not_small =
     let call = accept_call place level answer in
     let undone = not_done call failed in
@@ -338,27 +338,28 @@ going-failed hosts old now new from tried calls place left level answer going fo
       states = λ page. unchanged page ∙ going.states page ∙ sym (states-push old calls call page ∙ not_both (is_done call) (covers call page) _ _ (λ d. let no : true ≡ false = sym d ∙ undone in cc));
       steps =
           steps-push hosts old now from place tried (Some level) calls call going (λ rest steps. step-on hosts old from tried place left level answer rest (was-not-small now from tried going.here) found is honest
-            (let P : ℕ → Type 0 = λ n. AcceptanceSteps hosts (pending_of old) (span_end old) n (tried_at call) rest in
-            let Q : Option Level → Type 0 = λ t. AcceptanceSteps hosts (pending_of old) (span_end old) place t rest in
-            subst P (sym at) (subst Q (sym tried_now) steps)));
+          (let P : ℕ → Type 0 = λ n. AcceptanceSteps hosts (pending_of old) (span_end old) n (tried_at call) rest in
+          let Q : Option Level → Type 0 = λ t. AcceptanceSteps hosts (pending_of old) (span_end old) place t rest in
+          subst P (sym at) (subst Q (sym tried_now) steps)));
       unstopped = stop-push hosts old now from tried calls call going (stop_big call level answer not_small);
     }
 
 -- a Small call that wasn't done ends the acceptance
 pub going-stopped : (hosts : List HostRun) (old now new : Taken) (from : ℕ) (tried : Option Level) (calls : List ModuleCall) (place left : ℕ) (level : Level) (answer : PortAnswer) → Going hosts old now from tried calls → FoundRun old from tried place left → level ≡ level_below place left tried → IsHonest hosts place level answer → answer ≡ Failed → new ≡ now → level ≡ Small
-  → Accepts hosts old new (calls ++ accept_call place level answer ∷ []) × (stop_of (calls ++ accept_call place level answer ∷ []) ≡ Some (record { 0 = place }))
+    → Accepts hosts old new (calls ++ accept_call place level answer ∷ []) × (stop_of (calls ++ accept_call place level answer ∷ []) ≡ Some (record { 0 = place }))
 going-stopped hosts old now new from tried calls place left level answer going found is honest failed same small =
     let call = accept_call place level answer in
     let undone : is_done call ≡ false = ap (λ (a : PortAnswer). is_done (accept_call place level a)) failed in
     let tried_now : tried_at call ≡ Some Small = ap (λ b. cond b None (Some level)) undone ∙ ap Some small in
     let unchanged : (page : ℕ) → state_in new.runs page ≡ state_in now.runs page = λ page. ap (λ (s : Taken). state_in s.runs page) same in
-    let Q : Option Level → Type 0 = MayEnd (pending_of old) (span_end old) (goes_on_at call) in
-    (record {
-      steps = going.steps (call ∷ []) (step-on hosts old from tried place left level answer [] (was-not-small now from tried going.here) found is honest (subst Q (sym tried_now) refl));
-      ticket = ap (λ (s : Taken). s.ticket) same ∙ going.ticket;
-      states = λ page. unchanged page ∙ going.states page ∙ sym (states-push old calls call page ∙ not_both (is_done call) (covers call page) _ _ (λ d. let no : true ≡ false = sym d ∙ undone in cc));
-    },
-    going.unstopped (call ∷ []) ∙ ap (λ (l : Level). stop_by call l answer) small ∙ ap (stop_by call Small) failed)
+    let Q : Option Level → Type 0 = MayEnd (pending_of old) (span_end old) (goes_on_at call) in (
+      record {
+        steps = going.steps (call ∷ []) (step-on hosts old from tried place left level answer [] (was-not-small now from tried going.here) found is honest (subst Q (sym tried_now) refl));
+        ticket = ap (λ (s : Taken). s.ticket) same ∙ going.ticket;
+        states = λ page. unchanged page ∙ going.states page ∙ sym (states-push old calls call page ∙ not_both (is_done call) (covers call page) _ _ (λ d. let no : true ≡ false = sym d ∙ undone in cc));
+      },
+      going.unstopped (call ∷ []) ∙ ap (λ (l : Level). stop_by call l answer) small ∙ ap (stop_by call Small) failed,
+    )
 
 may_end : (hosts : List HostRun) (old now : Taken) (from : ℕ) (tried : Option Level) (calls : List ModuleCall) → Going hosts old now from tried calls → NonePending now from → MayEnd (pending_of old) (span_end old) from tried
 may_end hosts old now from None calls going none =
@@ -368,13 +369,14 @@ may_end hosts old now from (Some level) calls going none = absurd (none from (om
 -- where no page is pending the acceptance is whole
 pub going-whole : (hosts : List HostRun) (old now : Taken) (from : ℕ) (tried : Option Level) (calls : List ModuleCall) → Going hosts old now from tried calls → NonePending now from → Accepts hosts old now calls × (stop_of calls ≡ None)
 going-whole hosts old now from tried calls going none =
-    let P : List ModuleCall → Type 0 = AcceptanceSteps hosts (pending_of old) (span_end old) old.ticket.pages.first None in
-    (record {
-      steps = subst P (append-nil calls) (going.steps [] (may_end hosts old now from tried calls going none));
-      ticket = going.ticket;
-      states = going.states;
-    },
-    ap stop_of (sym (append-nil calls)) ∙ going.unstopped [])
+    let P : List ModuleCall → Type 0 = AcceptanceSteps hosts (pending_of old) (span_end old) old.ticket.pages.first None in (
+      record {
+        steps = subst P (append-nil calls) (going.steps [] (may_end hosts old now from tried calls going none));
+        ticket = going.ticket;
+        states = going.states;
+      },
+      ap stop_of (sym (append-nil calls)) ∙ going.unstopped [],
+    )
 
 small_done : (host : Level) → answer_by Small host ≡ AnsweredOk
 small_done Small = refl

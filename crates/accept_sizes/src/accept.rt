@@ -55,7 +55,14 @@ fn level_to_try(place: u64, left: u64, tried: Option<Level>) -> Level
 }
 
 /// Makes one accept call, and notes it.
-fn try_call<P: Port>(port: &mut P, span: &mut Span, hosts: &Hosts, log: &mut CallLog, place: Page, level: Level) -> PortAnswer
+fn try_call<P: Port>(
+    port: &mut P,
+    span: &mut Span,
+    hosts: &Hosts,
+    log: &mut CallLog,
+    place: Page,
+    level: Level,
+) -> PortAnswer
     requires room { 0 < P.room port.old }
     requires log_room { 0 < log.old.room }
     requires may { MayAccept span.old place.0 level }
@@ -84,7 +91,12 @@ fn try_call<P: Port>(port: &mut P, span: &mut Span, hosts: &Hosts, log: &mut Cal
 /// then 4 KiB, as far as the place is aligned and enough pending pages are left. A call that isn't answered
 /// Ok falls to the next size; a 4 KiB call that isn't ends the work, and `Stopped` tells its page. It comes
 /// only where the port's count of faults rose (after the TDX guest's acceptance).
-pub fn accept_run<P: Port>(port: &mut P, span: &mut Span, hosts: &Hosts, log: &mut CallLog) -> RunEnd
+pub fn accept_run<P: Port>(
+    port: &mut P,
+    span: &mut Span,
+    hosts: &Hosts,
+    log: &mut CallLog,
+) -> RunEnd
     requires room { most_calls_of span.old.ticket.pages.count ≤ P.room port.old }
     requires log_room { most_calls_of span.old.ticket.pages.count ≤ log.old.room }
     ensures calls { (calls : List ModuleCall) × (log.new.calls ≡ log.old.calls ++ calls) × (P.made port.new ≡ P.made port.old ++ calls)

@@ -1,26 +1,24 @@
 -- What was written is read again.
-use Rattle.std.proofs.Common.{◌≡◌, ◌≢◌, ℕ, zero, suc, ◌+◌, ◌-◌, ◌*◌, ◌/◌, ◌%◌, ◌^◌, ◌<◌, ◌≤◌, Bool, true, false, cond, List, [], ◌∷◌, ◌++◌, length, get_or, drop, filter, sum_by, position, max, min, Option, Some, None, Result, Ok, Err, refl, sym, ap, subst, ◌∙◌, append_assoc, arith, inl, inr, nat_lt, nat_le, ◌==◌}
-use Rattle.std.specs.Option.{option_map}
+use Rattle.std.proofs.Common.{◌≡◌, ℕ, suc, ◌+◌, ◌*◌, ◌/◌, ◌%◌, ◌^◌, ◌<◌, ◌≤◌, Bool, true, false, cond, List, [], ◌∷◌, ◌++◌, length, get_or, drop, filter, sum_by, position, max, Some, None, Result, Ok, Err, refl, sym, ap, subst, ◌∙◌, append_assoc, arith, inl, inr, nat_lt, nat_le, ◌==◌}
 use Rattle.std.specs.Result.{IfOk}
-use Rattle.std.specs.List.{All, AllPairs, list_any, flat_map, position_or_len}
-use Rattle.std.proofs.lemmas.Bool.{cases_Bool, cases_lt}
+use Rattle.std.specs.List.{All, AllPairs, list_any, flat_map}
+use Rattle.std.proofs.lemmas.Bool.{cases_Bool}
 use Rattle.std.proofs.lemmas.Bool.Decides.{nat_tests}
 use Rattle.std.proofs.lemmas.List.{drop_at, length-append, append-nil, get_or_append_left}
 use Rattle.std.proofs.Math.Seq.{drop-append-add, get_or-append_seam}
 use Rattle.std.proofs.lemmas.List.Concat.{flat_map-cons}
-use Rattle.std.proofs.lemmas.List.Elements.{All-get_or, All-tail, All-head}
+use Rattle.std.proofs.lemmas.List.Elements.{All-tail, All-head}
 use Rattle.std.proofs.lemmas.List.Folds.{list_any_none}
-use Rattle.std.proofs.lemmas.List.Sums.{sum_by-append, sum_by-cons, position_or_len_is}
+use Rattle.std.proofs.lemmas.List.Sums.{sum_by-append, sum_by-cons}
 use Rattle.byteorder.specs.Numbers.{length-bytes_low_first, little_number-reads_back}
-use Rattle.guest_base.specs.Ranges.{in_range}
 use Rattle.guest_base.specs.declared.memory.Level.{Level}
 use Rattle.guest_base.specs.declared.memory.Level.TheVariants.{Small, Large, Huge}
 use Rattle.guest_base.specs.declared.memory.HostRun.{HostRun}
 use Rattle.event_core.specs.declared.boot.Descriptor.{Descriptor}
-use Rattle.event_core.specs.Map.{is_ram, ram_pages, descriptor_end, IsDescriptor, AreApart, IsHostRecord, AreHostsApart, MapRules}
-use Rattle.efi_map.specs.declared.fault.MapFault.{MapFault}
+use Rattle.event_core.specs.Map.{is_ram, ram_pages, descriptor_end, IsDescriptor, AreApart, IsHostRecord, AreHostsApart}
 use Rattle.efi_map.specs.declared.map.GuestMap.{GuestMap}
-use Rattle.efi_map.specs.MapFile.{◌>>=◌, number, has_pages, end_limit, meet, place_fault, overlap_fault, ram_fault, descriptor_fault, unless, descriptor_at, descriptors_at, level_of, are_pages, host_record, hosts_meet, host_behind, host_at, hosts_at, is_stride, word_at, magic_at, stride_at, version_at, count_at, header_at, all_descriptors_at, all_hosts_at, map_of}
+use Rattle.efi_map.specs.MapFile.{number, has_pages, end_limit, meet, descriptor_fault, descriptor_at, descriptors_at, level_of, are_pages, host_record, hosts_meet, host_at, hosts_at, word_at, magic_at, stride_at, version_at, count_at, header_at, all_descriptors_at, all_hosts_at, map_of}
+use Rattle.efi_map.proofs.Steps.{position_of_none}
 use Rattle.efi_map.specs.Spelling.{low_bytes, descriptor_bytes, level_number, host_bytes, header_bytes, map_bytes, HasFile}
 
 -- ---- numbers
@@ -97,13 +95,6 @@ unmet d e some-d some-e apart =
       | inl met ↦ absurd (apart (max d.start e.start) (grind (arith, nat_tests)) (grind (arith, nat_tests)))
       | inr other ↦ other
     ]
-
-position_of_none : {X : Type 0} (p : X → Bool) (xs : List X) → All (λ x. p x ≡ false) xs → position p xs ≡ None
-position_of_none p [] none = refl
-position_of_none p (x ∷ xs) none =
-    let whole : position_or_len p (x ∷ xs) ≡ length (x ∷ xs) = position_or_len_is p (x ∷ xs) (length (x ∷ xs)) x (omega arith) (λ k lt. none k x lt) (λ lt. absurd (omega (arith, lt))) in
-    let past : nat_lt (position_or_len p (x ∷ xs)) (length (x ∷ xs)) ≡ false = grind (arith, nat_tests, whole) in
-    rw past refl
 
 fine_again : (before : List Descriptor) (d : Descriptor) → IsDescriptor d → All IsDescriptor before → All (λ e. AreApart e d) before → sum_by ram_pages before + ram_pages d ≤ 2 ^ 24 → descriptor_fault before d ≡ None
 unfolding descriptor_fault

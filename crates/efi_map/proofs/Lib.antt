@@ -1,4 +1,5 @@
 pub mod Again
+pub mod Index
 pub mod Joining
 pub mod Loop
 pub mod RamOf

@@ -1,13 +1,12 @@
 -- Reading descriptors and host records one after the other, as a loop does.
 use Rattle.std.proofs.Common.{◌≡◌, ◌⊎◌, inl, inr, ℕ, suc, ◌-◌, ◌+◌, ◌≤◌, ◌<◌, ◌^◌, List, [], ◌∷◌, ◌++◌, Option, None, Some, Result, Ok, Err, sum_by, cond, Bool, refl, sym, ap, ◌∙◌, true, false, arith}
 use Rattle.std.proofs.lemmas.Bool.Decides.{nat_tests}
-use Rattle.std.proofs.lemmas.List.Sums.{sum_by_push}
 use Rattle.guest_base.specs.declared.memory.HostRun.{HostRun}
 use Rattle.event_core.specs.declared.boot.Descriptor.{Descriptor}
 use Rattle.event_core.specs.Map.{ram_pages}
 use Rattle.efi_map.specs.declared.fault.MapFault.{MapFault}
 use Rattle.efi_map.specs.declared.fault.MapFault.TheVariants.{NoMemory}
-use Rattle.efi_map.specs.MapFile.{◌>>=◌, descriptor_at, unless, place_fault, overlap_fault, ram_fault, has_pages, descriptor_fault, descriptors_at, host_at, hosts_at}
+use Rattle.efi_map.specs.MapFile.{◌>>=◌, descriptor_at, unless, descriptor_fault, descriptors_at, host_at, hosts_at}
 
 -- a refusal that isn't want of memory is that of reading
 abbrev pub Refuses : {A : Type 0} → MapFault → Result A MapFault → Type 0

@@ -1,23 +1,22 @@
 -- A map that was read meets the rules of maps.
-use Rattle.std.proofs.Common.{◌≡◌, ◌≢◌, ℕ, zero, suc, ◌+◌, ◌-◌, ◌*◌, ◌/◌, ◌%◌, ◌^◌, ◌<◌, ◌≤◌, Bool, true, false, cond, List, [], ◌∷◌, ◌++◌, length, get_or, drop, filter, sum_by, position, max, min, Option, Some, None, Result, Ok, Err, refl, sym, ap, subst, ◌∙◌, arith, inl, inr, nat_lt, nat_le, ◌==◌}
+use Rattle.std.proofs.Common.{◌≡◌, ℕ, zero, suc, ◌+◌, ◌-◌, ◌/◌, ◌%◌, ◌^◌, ◌<◌, ◌≤◌, Bool, true, false, cond, List, [], ◌∷◌, ◌++◌, length, get_or, drop, filter, sum_by, position, Option, Some, None, Result, Ok, Err, refl, sym, ap, subst, ◌∙◌, arith, inl, inr, nat_lt, nat_le, ◌==◌}
 use Rattle.std.specs.Prelude.{IfOk}
 use Rattle.std.specs.Option.{option_map}
 use Rattle.std.specs.List.{All, AllPairs, list_any}
 use Rattle.std.proofs.lemmas.Bool.Decides.{nat_tests}
 use Rattle.std.proofs.lemmas.Bool.{cases_Bool}
-use Rattle.std.proofs.lemmas.List.Elements.{All-push, All-filter, filter_passes, All-get_or, All-nil}
+use Rattle.std.proofs.lemmas.List.Elements.{All-push, All-filter, filter_passes}
 use Rattle.std.proofs.lemmas.List.Quantifiers.{all_pairs_push}
 use Rattle.std.proofs.lemmas.List.Kept.{AllPairs-filter}
 use Rattle.std.proofs.lemmas.List.Sums.{sum_by_push, sum_by-cons}
 use Rattle.byteorder.specs.Numbers.{little_from-lt}
-use Rattle.guest_base.specs.Ranges.{in_range}
 use Rattle.guest_base.specs.declared.memory.Level.{Level}
 use Rattle.guest_base.specs.declared.memory.Pages.{Pages}
 use Rattle.guest_base.specs.declared.memory.HostRun.{HostRun}
 use Rattle.event_core.specs.declared.boot.Descriptor.{Descriptor}
-use Rattle.event_core.specs.Map.{is_ram, ram_pages, descriptor_end, IsDescriptor, AreApart, IsHostRecord, AreHostsApart, MapRules}
+use Rattle.event_core.specs.Map.{ram_pages, descriptor_end, IsDescriptor, AreApart, IsHostRecord, AreHostsApart, MapRules}
 use Rattle.efi_map.specs.declared.fault.MapFault.{MapFault}
-use Rattle.efi_map.specs.declared.fault.MapFault.TheVariants.{Short, BadMagic, BadSize, BadVersion, TooMany, Unaligned, TooHigh, Overlap, TooMuchRam, BadHost, Trailing}
+use Rattle.efi_map.specs.declared.fault.MapFault.TheVariants.{Short, BadMagic, BadSize, BadVersion, TooMany, Unaligned, TooHigh, TooMuchRam, BadHost, Trailing}
 use Rattle.efi_map.specs.declared.map.GuestMap.{GuestMap}
 use Rattle.efi_map.specs.MapFile.{◌>>=◌, number, has_pages, end_limit, meet, place_fault, overlap_fault, ram_fault, descriptor_fault, unless, descriptor_at, descriptors_at, level_of, are_pages, host_record, hosts_meet, host_behind, host_at, hosts_at, Gives, is_stride, word_at, magic_at, stride_at, version_at, count_at, header_at, all_descriptors_at, all_hosts_at, map_of}
 use Rattle.efi_map.proofs.Steps.{IsBytes, IsBytes-drop, bind_ok, guard_ok, guarded_ok, cond_none, cond_else_none, cond_err_ok, cond_then_some, ok_is, position_none, list_any_false}
@@ -55,8 +54,19 @@ apart_unless_met a b none byte in-a in-b = grind (arith, nat_tests)
 apart_from_none : (a b : Descriptor) → has_pages b ≡ false → AreApart a b
 apart_from_none a b none byte in-a in-b = grind (arith, nat_tests)
 
+nothing_met : (d x : Descriptor) → has_pages d ≡ false → meet d x ≡ false
+nothing_met d x none = grind (arith, nat_tests)
+
 none_is_no_ram : (d : Descriptor) → has_pages d ≡ false → ram_pages d ≡ 0
 none_is_no_ram d none = grind (arith, nat_tests)
+
+-- nothing is wrong with it, so it meets none of those before it
+pub unmet_of_fine : (before : List Descriptor) (d : Descriptor) → descriptor_fault before d ≡ None → All (λ x. meet d x ≡ false) before
+unmet_of_fine before d fine =
+    elim (cases_Bool (has_pages d)) [
+      | inl some ↦ position_none (meet d) before (is_fine before d some fine).apart
+      | inr none ↦ λ k x lt. nothing_met d (get_or before k x) none
+    ]
 
 -- ---- descriptors one behind another
 
@@ -130,7 +140,7 @@ option_pages pages (Some l) h e = cc
 page_facts : (start len : ℕ) → are_pages start len ≡ true → (start % 4096 ≡ 0) × (len % 4096 ≡ 0) × (0 < len) × (start + len ≤ 2 ^ 40)
 page_facts start len e = (grind (arith, nat_tests), grind (arith, nat_tests), grind (arith, nat_tests), grind (arith, nat_tests))
 
-is_host_record : (start len level : ℕ) (h : HostRun) → host_record start len level ≡ Some h → IsHostRecord h
+pub is_host_record : (start len level : ℕ) (h : HostRun) → host_record start len level ≡ Some h → IsHostRecord h
 unfolding host_record
 is_host_record start len level h e =
     let pages : Pages = record { first = start / 4096; count = len / 4096 } in
@@ -151,6 +161,16 @@ behind_ok before None h e = absurd cc
 behind_ok before (Some run) h e =
     let g = guard_ok (list_any (hosts_meet run) before) (BadHost (length before)) run h e in
     (ap Some g.1, subst (λ (y : HostRun). list_any (hosts_meet y) before ≡ false) g.1 g.0)
+
+pub host_unmet : (size : ℕ) (before : List HostRun) (bytes : List ℕ) (x : HostRun × List ℕ) → host_at size before bytes ≡ Ok x → All (λ h. hosts_meet x.0 h ≡ false) before
+unfolding host_at
+host_unmet size before bytes x e =
+    let o = host_record (number 8 bytes) (number 8 (drop 8 bytes)) (number 4 (drop 16 bytes)) in
+    let a = cond_err_ok (nat_lt (length bytes) 20) (Short size) (host_behind before o >>= λ (h : HostRun). Ok (h, drop 20 bytes)) x e in
+    let b = bind_ok (host_behind before o) (λ (h : HostRun). Ok (h, drop 20 bytes)) x a.1 in
+    let met = behind_ok before o b.0 b.1 in
+    let others : All (λ h. hosts_meet b.0 h ≡ false) before = list_any_false (hosts_meet b.0) before met.1 in
+    subst (λ (y : HostRun × List ℕ). All (λ h. hosts_meet y.0 h ≡ false) before) (ok_is (b.0, drop 20 bytes) x b.2) others
 
 hosts_push : (size : ℕ) (before : List HostRun) (bytes : List ℕ) (x : HostRun × List ℕ) → host_at size before bytes ≡ Ok x → AreHosts before → AreHosts (before ++ x.0 ∷ [])
 unfolding host_at

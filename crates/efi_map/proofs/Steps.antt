@@ -1,9 +1,10 @@
 -- One step of reading behind another.
-use Rattle.std.proofs.Common.{◌≡◌, ℕ, ◌+◌, ◌*◌, ◌^◌, ◌<◌, ◌≤◌, Bool, true, false, cond, List, [], length, get_or, drop, position, Option, Some, None, Result, Ok, Err, refl, sym, ap, subst, ◌∙◌, arith, inl, inr}
+use Rattle.std.proofs.Common.{◌≡◌, ℕ, ◌+◌, ◌<◌, Bool, true, false, cond, List, [], ◌∷◌, length, get_or, drop, position, Option, Some, None, Result, Ok, Err, refl, arith, inl, inr, nat_lt}
 use Rattle.std.proofs.lemmas.Bool.{cases_Bool}
+use Rattle.std.proofs.lemmas.Bool.Decides.{nat_tests}
 use Rattle.std.proofs.lemmas.List.{get_or-drop}
 use Rattle.std.specs.List.{All, list_any, position_or_len}
-use Rattle.std.proofs.lemmas.List.Sums.{fails_before_first}
+use Rattle.std.proofs.lemmas.List.Sums.{fails_before_first, position_or_len_is}
 use Rattle.std.proofs.lemmas.List.Folds.{list_any_at}
 use Rattle.efi_map.specs.declared.fault.MapFault.{MapFault}
 use Rattle.efi_map.specs.MapFile.{◌>>=◌}
@@ -60,3 +61,10 @@ list_any_false p xs none k d lt =
       | inl met ↦ absurd (let one = list_any_at p xs k d lt met in cc)
       | inr apart ↦ apart
     ]
+
+pub position_of_none : {X : Type 0} (p : X → Bool) (xs : List X) → All (λ x. p x ≡ false) xs → position p xs ≡ None
+position_of_none p [] none = refl
+position_of_none p (x ∷ xs) none =
+    let whole : position_or_len p (x ∷ xs) ≡ length (x ∷ xs) = position_or_len_is p (x ∷ xs) (length (x ∷ xs)) x (omega arith) (λ k lt. none k x lt) (λ lt. absurd (omega (arith, lt))) in
+    let past : nat_lt (position_or_len p (x ∷ xs)) (length (x ∷ xs)) ≡ false = grind (arith, nat_tests, whole) in
+    rw past refl

@@ -1,3 +1,4 @@
 pub mod MapFile
 pub mod Ram
 pub mod Spelling
+pub mod Starts

@@ -1,6 +1,6 @@
 -- The map file, from left to right, with the first refusal that is met. Numbers are little endian. The fields of a descriptor are
 -- those of a UEFI memory descriptor; all else is this project's own.
-use Rattle.std.specs.Prelude.{◌≡◌, ◌⊎◌, ℕ, zero, suc, ◌+◌, ◌-◌, ◌*◌, ◌/◌, ◌%◌, ◌^◌, ◌<◌, Bool, true, false, ◌&&◌, ◌==◌, nat_lt, nat_le, List, [], ◌∷◌, ◌++◌, length, drop, filter, sum_by, max, min, position, Option, Some, None, Result, Ok, Err, if◌then◌else◌}
+use Rattle.std.specs.Prelude.{◌≡◌, ◌⊎◌, ℕ, zero, suc, ◌+◌, ◌-◌, ◌/◌, ◌%◌, ◌^◌, Bool, ◌&&◌, ◌==◌, nat_lt, nat_le, List, [], ◌∷◌, ◌++◌, length, drop, filter, sum_by, max, min, position, Option, Some, None, Result, Ok, Err, if◌then◌else◌}
 use Rattle.std.specs.List.{list_any}
 use Rattle.std.specs.Option.{option_map}
 use Rattle.byteorder.specs.Endian.{little_number}
@@ -76,14 +76,17 @@ end_limit d = if is_ram d then 2 ^ 40 else 2 ^ 64
 abbrev pub meet : Descriptor → Descriptor → Bool
 meet a b = nat_lt (max a.start b.start) (min (descriptor_end a) (descriptor_end b))
 
--- what is wrong with a descriptor that has pages, behind those that stand before it: it is counted with all of them
+-- What is wrong with a descriptor that has pages, behind those that stand before it. Its number is how many these are. Last, the
+-- RAM of all of them, and its own, is at most 64 GiB.
 abbrev pub ram_fault : List Descriptor → Descriptor → Option MapFault
 ram_fault before d = if nat_lt (2 ^ 24) (sum_by ram_pages before + ram_pages d) then Some TooMuchRam else None
 
+-- before that: it meets one of those, of which the first is told
 abbrev pub overlap_fault : List Descriptor → Descriptor → Option ℕ → Option MapFault
 overlap_fault before d (Some earlier) = Some (Overlap earlier (length before))
 overlap_fault before d None = ram_fault before d
 
+-- and first: it doesn't start on a page, or ends too high
 abbrev pub place_fault : List Descriptor → Descriptor → Option MapFault
 place_fault before d =
     if d.start % 4096 == 0

@@ -1,5 +1,5 @@
 -- RAM as runs of pages, descriptor by descriptor.
-use Rattle.std.specs.Prelude.{ℕ, List, ◌+◌, ◌/◌, ◌<◌, ◌≤◌, ◌^◌, ◌==◌, if◌then◌else◌, map, filter, All}
+use Rattle.std.specs.Prelude.{List, ◌/◌, ◌<◌, ◌≤◌, ◌^◌, if◌then◌else◌, map, filter, All}
 use Rattle.std.specs.List.{AllPairs}
 use Rattle.guest_base.specs.declared.memory.PageState.TheVariants.{Pending, Accepted}
 use Rattle.guest_base.specs.declared.memory.PageRun.{PageRun}

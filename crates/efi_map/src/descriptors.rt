@@ -1,12 +1,17 @@
 //! The descriptors of a map file.
-ghost use Rattle.std.specs.Prelude.{◌≡◌, ◌≤◌, [], length, position, sum_by};
+ghost use Rattle.std.specs.Prelude.{◌≡◌, ◌<◌, ◌≤◌, ◌^◌, [], length, position, sum_by};
+ghost use Rattle.std.specs.BTreeMap.{get};
+ghost use Rattle.std.specs.Ordering.{nat_cmp};
 ghost use Rattle.event_core.specs.Map.{is_ram as names_ram, descriptor_end, ram_pages};
+ghost use Rattle.efi_map.specs.Starts.{IndexesDescriptors};
 ghost use Rattle.efi_map.specs.MapFile.{Gives, descriptor_at, descriptors_at, all_descriptors_at, descriptor_fault, end_limit, meet};
 
 use crate::fault::MapFault;
 use crate::fields::header;
+use crate::starts::{Starts, is_clear, note};
 use byteorder::{ByteOrder, LittleEndian};
 use event_core::Descriptor;
+use guest_base::limits::{ADDRESS_END, MAX_RAM_PAGES, PAGE_BYTES};
 use std::alloc::Global;
 
 /// Whether a descriptor is RAM: loader code and data, boot services code and data, conventional or unaccepted memory.
@@ -20,7 +25,7 @@ pub fn is_ram(d: Descriptor) -> bool
 fn end(d: Descriptor) -> u128
     ensures { result ≡ descriptor_end d }
 {
-    u128::from(d.start) + u128::from(d.pages) * 4096
+    u128::from(d.start) + u128::from(d.pages) * u128::from(PAGE_BYTES)
 }
 
 /// Whether two descriptors have a byte in common.
@@ -32,9 +37,14 @@ fn meet(a: Descriptor, b: Descriptor) -> bool
 
 /// The bytes' greatest end for a descriptor.
 fn end_limit(d: Descriptor) -> u128
-    ensures { result ≡ end_limit d }
+    ensures limit { result ≡ end_limit d }
+    ensures below { result ≤ 2 ^ 64 }
 {
-    if is_ram(d) { 1 << 40 } else { 1 << 64 }
+    if is_ram(d) {
+        u128::from(ADDRESS_END)
+    } else {
+        1 << 64
+    }
 }
 
 #[tactic(auto, unfolding(crate::specs::MapFile::descriptor_at, crate::specs::MapFile::number))]
@@ -59,17 +69,26 @@ fn ram_pages(d: Descriptor) -> u64
     if is_ram(d) { d.pages } else { 0 }
 }
 
-/// The place of the first of these descriptors that a descriptor has a byte in common with.
-fn first_met(before: &[Descriptor], d: Descriptor) -> Option<usize>
+/// The place of the first of these descriptors that a descriptor with pages has a byte in common with. They are gone
+/// through only where there is one.
+fn first_met(before: &[Descriptor], starts: &Starts, d: Descriptor) -> Option<usize>
+    requires some { 0 < d.pages }
+    requires below { descriptor_end d ≤ 2 ^ 64 }
+    requires index { IndexesDescriptors (get nat_cmp starts.now) before.now }
     ensures { result ≡ position (meet d) before.now }
 {
+    let last = (end(d) - 1) as u64;
+    if is_clear(starts, d.start, last) {
+        return None;
+    }
     before.iter().position(|earlier| meet(d, *earlier))
 }
 
 /// The first thing that is wrong with a descriptor, behind those before it, which have `ram` pages of RAM.
 #[tactic(auto, unfolding(crate::specs::MapFile::descriptor_fault))]
-fn fault(before: &[Descriptor], ram: u64, d: Descriptor) -> Option<MapFault>
+fn fault(before: &[Descriptor], starts: &Starts, ram: u64, d: Descriptor) -> Option<MapFault>
     requires few { length before.now ≤ 4096 }
+    requires index { IndexesDescriptors (get nat_cmp starts.now) before.now }
     requires ram { ram ≡ sum_by ram_pages before.now }
     ensures { result ≡ descriptor_fault before.now d }
 {
@@ -77,16 +96,16 @@ fn fault(before: &[Descriptor], ram: u64, d: Descriptor) -> Option<MapFault>
         return None;
     }
     let number = before.len() as u32;
-    if d.start % 4096 != 0 {
+    if d.start % PAGE_BYTES != 0 {
         return Some(MapFault::Unaligned(number));
     }
     if end(d) > end_limit(d) {
         return Some(MapFault::TooHigh(number));
     }
-    if let Some(earlier) = first_met(before, d) {
+    if let Some(earlier) = first_met(before, starts, d) {
         return Some(MapFault::Overlap(earlier as u32, number));
     }
-    if u128::from(ram) + u128::from(ram_pages(d)) > 1 << 24 {
+    if u128::from(ram) + u128::from(ram_pages(d)) > u128::from(MAX_RAM_PAGES) {
         return Some(MapFault::TooMuchRam);
     }
     None
@@ -105,13 +124,15 @@ fn descriptors(
     ensures { Gives (λ x. (x.0.items, x.1.now)) result (descriptors_at size stride count [] bytes.now) }
 {
     let mut found = Vec::new(alloc);
+    let mut starts = Starts::new(alloc);
     let mut ram = 0;
     let mut rest = bytes;
     for _ in 0..count {
         let (next, after) = descriptor(size, stride, rest)?;
-        if let Some(fault) = fault(&found, ram, next) {
+        if let Some(fault) = fault(&found, &starts, ram, next) {
             return Err(fault);
         }
+        note(&mut starts, next.start, end(next))?;
         found.push(next)?;
         ram += ram_pages(next);
         rest = after;

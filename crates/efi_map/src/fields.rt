@@ -4,6 +4,7 @@ ghost use Rattle.efi_map.specs.MapFile.{Gives, word_at, magic_at, stride_at, ver
 
 use crate::fault::MapFault;
 use byteorder::{ByteOrder, LittleEndian};
+use guest_base::limits::MAX_DESCRIPTORS;
 
 /// The bytes `GMAP`, as a number.
 pub const MAGIC: u32 = 0x50414d47;
@@ -53,14 +54,14 @@ fn version(size: u64, bytes: &[u8]) -> Result<&[u8], MapFault>
     Ok(rest)
 }
 
-/// The number of descriptors, or of host records: 0 to 4,096.
+/// The number of descriptors, or of host records, which have the same limit.
 #[tactic(auto, unfolding(crate::specs::MapFile::count_at))]
 pub fn count(size: u64, bytes: &[u8]) -> Result<(u32, &[u8]), MapFault>
     ensures exact { Gives (λ x. (x.0, x.1.now)) result (count_at size bytes.now) }
     ensures few { IfOk result (λ x. x.0 ≤ 4096) }
 {
     let (count, rest) = word(size, bytes)?;
-    if count > 4096 {
+    if count > MAX_DESCRIPTORS {
         return Err(MapFault::TooMany(count));
     }
     Ok((count, rest))

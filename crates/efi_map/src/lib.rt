@@ -8,6 +8,7 @@ mod hosts;
 mod map;
 mod ram;
 mod reading;
+mod starts;
 mod writing;
 
 pub use fault::MapFault;

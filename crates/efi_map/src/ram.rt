@@ -8,6 +8,7 @@ ghost use Rattle.efi_map.specs.Ram.{run_of, ram_of, AreOrdered};
 use crate::descriptors::is_ram;
 use crate::map::GuestMap;
 use event_core::{Descriptor, Runs};
+use guest_base::limits::PAGE_BYTES;
 use guest_base::{PageRun, PageState, Pages};
 use std::alloc::{AllocError, Global};
 
@@ -16,7 +17,7 @@ fn run_of(d: Descriptor) -> PageRun
     ensures { result ≡ run_of d }
 {
     let pages = Pages {
-        first: d.start / 4096,
+        first: d.start / PAGE_BYTES,
         count: d.pages,
     };
     let state = if d.kind == 15 {

@@ -7,6 +7,7 @@ ghost use Rattle.std.specs.List.{flat_map};
 use crate::fields::MAGIC;
 use crate::map::GuestMap;
 use event_core::Descriptor;
+use guest_base::limits::PAGE_BYTES;
 use guest_base::{Bytes, HostRun, Level};
 use std::alloc::{AllocError, Global};
 
@@ -52,8 +53,8 @@ fn level_number(level: Level) -> u64
 fn put_host(out: &mut Vec<u8>, run: HostRun) -> Result<(), AllocError>
     ensures { OnOk result (out.new.items ≡ out.old.items ++ host_bytes run) }
 {
-    put_long(out, u128::from(run.pages.first) * 4096)?;
-    put_long(out, u128::from(run.pages.count) * 4096)?;
+    put_long(out, u128::from(run.pages.first) * u128::from(PAGE_BYTES))?;
+    put_long(out, u128::from(run.pages.count) * u128::from(PAGE_BYTES))?;
     put_word(out, level_number(run.level))
 }
 

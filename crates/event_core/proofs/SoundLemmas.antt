@@ -1,12 +1,10 @@
-use Rattle.std.proofs.Common.{◌≡◌, ◌≢◌, ℕ, ◌+◌, ◌-◌, ◌<◌, ◌≤◌, Bool, true, false, ◌&&◌, Option, None, Some, List, [], ◌∷◌, ◌++◌, refl, sym, ◌∙◌, ap, subst, inl, inr, arith, cond, append_assoc, append-nil, eqb-true}
-use Rattle.std.specs.Prelude.{fold, map, filter, ◌⊎◌, ◌==◌, slice_get, length, nat_lt, max, min}
-use Rattle.std.specs.Option.{option_and_then, option_map, option_map_or}
+use Rattle.std.proofs.Common.{◌≡◌, ◌≢◌, ℕ, ◌<◌, Bool, true, false, ◌&&◌, Option, None, Some, List, [], ◌∷◌, ◌++◌, refl, sym, ◌∙◌, ap, subst, inl, inr, arith, append_assoc, append-nil, eqb-true}
+use Rattle.std.specs.Prelude.{◌==◌, slice_get, length}
+use Rattle.std.specs.Option.{option_and_then, option_map}
 use Rattle.std.specs.List.{AllByRecursion}
 use Rattle.std.proofs.Math.Nat.{max_comm, min_comm}
 use Rattle.std.proofs.lemmas.Option.{slice_get_past}
 use Rattle.std.proofs.lemmas.Bool.{cases_Bool, cases_lt}
-use Rattle.guest_base.specs.Ranges.{in_range}
-use Rattle.guest_base.specs.Search.{first_such}
 use Rattle.guest_base.proofs.SearchLemmas.{first_such-None}
 use Rattle.guest_base.specs.declared.memory.Page.{Page}
 use Rattle.guest_base.specs.declared.memory.Units.{Units}
@@ -26,13 +24,13 @@ use Rattle.event_core.specs.Runs.{state_in}
 use Rattle.event_core.specs.AcceptedOnce.{AcceptedOnce}
 use Rattle.event_core.specs.Claims.{Claimed, claim_step, goes_on, opened, claim_of, in_the_way, units_meet, claim_meets, ClaimsApart}
 use Rattle.event_core.specs.Units.{units_end}
-use Rattle.event_core.specs.MemoryRows.{page_state, pending_in, is_pending, AcceptsUnits, claim_event, run_of_claim}
+use Rattle.event_core.specs.MemoryRows.{page_state, pending_in, AcceptsUnits, claim_event, run_of_claim}
 use Rattle.event_core.specs.Moved.{Moved, entries_of, made_by}
 use Rattle.event_core.specs.Own.{present, replied}
 use Rattle.event_core.specs.Refusals.{refusal_of}
 use Rattle.event_core.specs.Next.{Step, next_step, step_of, unrefused_step, refused_or, accept_step}
-use Rattle.event_core.specs.Legal.{FollowsOver, Follows, LegalAfter, Legal, with_bytes, moved_after, with_moved, at_place, place_of, CallsFit, same_place}
-use Rattle.event_core.proofs.StepsLemmas.{steps-sound, pending-is, second_of}
+use Rattle.event_core.specs.Legal.{Follows, LegalAfter, Legal, with_bytes, at_place, place_of, CallsFit, same_place}
+use Rattle.event_core.proofs.StepsLemmas.{steps-sound, pending-is}
 use Rattle.event_core.proofs.StandingLemmas.{IsPlaced, quiet, claim_of-memory, calls_of-memory, calls_of-push, claim_of-push}
 
 pub state_after-append : (states : States) (a b : List ModuleCall) → state_after states (a ++ b) ≡ state_after (state_after states a) b
@@ -95,7 +93,7 @@ follows-sound boot scripts history entry placed f =
           (let at : entry.place ≡ place.Memory = f.over.place ∙ same_place-Memory (place_of boot entry.event) t in
           let P : List ModuleCall → Type 0 = λ calls. SoundCalls (page_state boot calls) (calls_in entry.event) in
           subst P (ap (λ p. calls_of boot (entries_of (at_place p history))) at ∙ calls_of-memory boot history placed)
-            (fit-sound boot (entries_of (at_place entry.place history)) entry.event f.over.calls))
+          (fit-sound boot (entries_of (at_place entry.place history)) entry.event f.over.calls))
       | inr q ↦
           (let P : List ModuleCall → Type 0 = λ calls. SoundCalls (page_state boot (calls_of boot (entries_of history))) calls in
           subst P (sym (quiet boot entry.event q).0) tt)
@@ -112,7 +110,7 @@ legal-sound boot scripts history (entry ∷ entries) placed sound legal =
     let Q : List Entry → Type 0 = λ es. SoundCalls (state_in boot.ram) (calls_of boot es) in
     subst Q (ap (λ es. es ++ entries) pushed ∙ append_assoc (entries_of history) (entry ∷ []) entries)
     (legal-sound boot scripts (history ++ m ∷ []) entries (placed-push boot history m placed legal.0.over.place)
-      (subst P (sym (ap (calls_of boot) pushed ∙ calls_of-push boot (entries_of history) entry)) now) legal.2)
+    (subst P (sym (ap (calls_of boot) pushed ∙ calls_of-push boot (entries_of history) entry)) now) legal.2)
 
 -- ---- claims are apart
 
@@ -265,7 +263,7 @@ legal-apart boot scripts history (entry ∷ entries) cpus placed was legal =
     let P : List Entry → Type 0 = AreApart boot in
     subst P (ap (λ es. es ++ entries) pushed ∙ append_assoc (entries_of history) (entry ∷ []) entries)
     (legal-apart boot scripts (history ++ m ∷ []) entries cpus (placed-push boot history m placed legal.0.over.place)
-      (subst P (sym pushed) (apart-push boot scripts history entry cpus placed legal.0 was)) legal.2)
+    (subst P (sym pushed) (apart-push boot scripts history entry cpus placed legal.0 was)) legal.2)
 
 -- what begins a legal history is legal
 pub legal-front : (boot : Boot) (scripts : List (List Command)) (history : List Moved) (before later : List Entry) → LegalAfter boot scripts history (before ++ later) → LegalAfter boot scripts history before

@@ -1,5 +1,5 @@
-use Rattle.std.proofs.Common.{◌≡◌, ◌≢◌, ℕ, ◌+◌, ◌<◌, ◌≤◌, Bool, true, false, Option, None, Some, List, [], ◌∷◌, ◌++◌, refl, sym, ◌∙◌, ap, inl, inr, arith, cond, append_assoc, append-nil}
-use Rattle.std.specs.Prelude.{fold, map, filter, ◌⊎◌, ◌==◌}
+use Rattle.std.proofs.Common.{◌≡◌, ℕ, Bool, true, false, Option, None, List, [], ◌∷◌, ◌++◌, refl, sym, ◌∙◌, ap, inl, inr, cond, append_assoc, append-nil}
+use Rattle.std.specs.Prelude.{fold, ◌==◌}
 use Rattle.std.specs.List.{flat_map, AllByRecursion}
 use Rattle.std.proofs.lemmas.Bool.{cases_Bool}
 use Rattle.std.proofs.lemmas.List.Sums.{fold-append}
@@ -8,13 +8,12 @@ use Rattle.event_core.specs.declared.boot.Boot.{Boot}
 use Rattle.event_core.specs.declared.module_call.ModuleCall.{ModuleCall}
 use Rattle.event_core.specs.declared.event.Event.{Event}
 use Rattle.event_core.specs.declared.event.Event.TheVariants as event
-use Rattle.event_core.specs.declared.entry.Place.{Place}
 use Rattle.event_core.specs.declared.entry.Place.TheVariants as place
 use Rattle.event_core.specs.declared.entry.Entry.{Entry}
 use Rattle.event_core.specs.Calls.{calls_in, calls_of}
 use Rattle.event_core.specs.Claims.{Claimed, Standing, standing_step, claim_step, claim_of}
 use Rattle.event_core.specs.Moved.{Moved, entries_of}
-use Rattle.event_core.specs.Legal.{bare, same_place, at_place, place_of}
+use Rattle.event_core.specs.Legal.{same_place, at_place, place_of}
 
 -- where a processor stands after entries
 abbrev pub standing_of : Boot → ℕ → Standing → List Entry → Standing

@@ -1,8 +1,7 @@
-use Rattle.std.proofs.Common.{◌≡◌, ◌≢◌, ℕ, zero, suc, ◌+◌, ◌-◌, ◌*◌, ◌<◌, ◌≤◌, Bool, true, false, ◌&&◌, Option, None, Some, List, [], ◌∷◌, ◌++◌, refl, sym, ◌∙◌, ap, subst, inl, inr, arith, cond}
-use Rattle.std.specs.Prelude.{fold, ◌⊎◌}
-use Rattle.std.proofs.lemmas.Bool.{cases_Bool, cases_lt}
+use Rattle.std.proofs.Common.{◌≡◌, ℕ, ◌+◌, ◌-◌, ◌<◌, ◌≤◌, Bool, true, false, ◌&&◌, Option, None, Some, List, [], ◌∷◌, refl, sym, ◌∙◌, ap, inl, inr, arith, cond}
+use Rattle.std.specs.Prelude.{◌⊎◌}
+use Rattle.std.proofs.lemmas.Bool.{cases_Bool}
 use Rattle.guest_base.specs.Ranges.{in_range}
-use Rattle.guest_base.specs.Search.{first_such, each_such}
 use Rattle.guest_base.specs.Levels.{level_pages}
 use Rattle.guest_base.proofs.SearchLemmas.{first_such-Some, each_such-true}
 use Rattle.guest_base.specs.declared.memory.Level.{Level}
@@ -10,10 +9,8 @@ use Rattle.guest_base.specs.declared.memory.PageState.{PageState}
 use Rattle.guest_base.specs.declared.memory.PageState.TheVariants.{Pending, Accepted, Shared}
 use Rattle.guest_base.specs.declared.memory.HostRun.{HostRun}
 use Rattle.event_core.specs.declared.module_call.ModuleCall.{ModuleCall}
-use Rattle.event_core.specs.declared.module_call.CallKind.{CallKind}
-use Rattle.event_core.specs.declared.module_call.CallKind.TheVariants.{Accept, Share, Unshare}
-use Rattle.event_core.specs.Calls.{States, is_done, covers, after_call, state_after, state_before, state_made, IsSound, SoundCalls}
-use Rattle.event_core.specs.Acceptance.{fits, levels_below, greatest_fitting, place_of_next, MayEnd, goes_on_at, tried_at, IsAcceptCall, AcceptanceSteps}
+use Rattle.event_core.specs.Calls.{States, is_done, covers, after_call, state_after, state_before, SoundCalls}
+use Rattle.event_core.specs.Acceptance.{fits, levels_below, greatest_fitting, place_of_next, goes_on_at, tried_at, IsAcceptCall, AcceptanceSteps}
 use Rattle.event_core.specs.MemoryRows.{is_pending}
 
 -- ranges as tests
@@ -98,14 +95,13 @@ goes_on-from call page above = goes_on-low (is_done call) call.first (level_page
 pub steps-sound : (hosts : List HostRun) (set : ℕ → Bool) (end from : ℕ) (tried : Option Level) (calls : List ModuleCall) (states : States) → ((page : ℕ) → from ≤ page → set page ≡ true → states page ≡ Some Pending) → AcceptanceSteps hosts set end from tried calls → SoundCalls states calls
 steps-sound hosts set end from tried [] states pending steps = tt
 steps-sound hosts set end from tried (call ∷ calls) states pending steps =
-    let low = place_of_next-from set end from tried call.first steps.0 in
-    (
+    let low = place_of_next-from set end from tried call.first steps.0 in (
       (λ page covered.
-        let found = steps-covers set call.first tried call steps.1 refl steps.2 page covered in
-        pending page (omega (arith, low, found.0)) found.1 ∙ ap (λ kind. Some (state_before kind)) (sym steps.2.kind)),
+          let found = steps-covers set call.first tried call steps.1 refl steps.2 page covered in
+          pending page (omega (arith, low, found.0)) found.1 ∙ ap (λ kind. Some (state_before kind)) (sym steps.2.kind)),
       steps-sound hosts set end (goes_on_at call) (tried_at call) calls (after_call states call)
-        (λ page above in_set. goes_on-unchanged call states page steps.2.count above ∙ pending page (omega (arith, low, goes_on-from call page above)) in_set)
-        steps.4
+          (λ page above in_set. goes_on-unchanged call states page steps.2.count above ∙ pending page (omega (arith, low, goes_on-from call page above)) in_set)
+          steps.4,
     )
 
 -- calls of acceptance steps change no page outside the set

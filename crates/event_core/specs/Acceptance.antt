@@ -1,4 +1,4 @@
-use Rattle.std.specs.Prelude.{ℕ, List, [], ◌∷◌, Option, None, Some, Bool, true, false, ◌≡◌, ◌+◌, ◌-◌, ◌%◌, ◌==◌, ◌&&◌, find, if◌then◌else◌}
+use Rattle.std.specs.Prelude.{ℕ, List, [], ◌∷◌, Option, None, Some, Bool, true, false, ◌≡◌, ◌+◌, ◌-◌, ◌%◌, ◌==◌, if◌then◌else◌}
 use Rattle.guest_base.specs.Search.{first_such, each_such}
 use Rattle.guest_base.specs.Levels.{level_pages}
 use Rattle.guest_base.specs.declared.memory.Page.{Page}
@@ -7,7 +7,7 @@ use Rattle.guest_base.specs.declared.memory.Level.TheVariants.{Small, Large, Hug
 use Rattle.guest_base.specs.declared.memory.HostRun.{HostRun}
 use Rattle.event_core.specs.declared.module_call.CallKind.TheVariants.{Accept}
 use Rattle.event_core.specs.declared.module_call.PortAnswer.{PortAnswer}
-use Rattle.event_core.specs.declared.module_call.PortAnswer.TheVariants.{Ok as AnsweredOk, SizeMismatch, Failed}
+use Rattle.event_core.specs.declared.module_call.PortAnswer.TheVariants.{Failed}
 use Rattle.event_core.specs.declared.module_call.ModuleCall.{ModuleCall}
 use Rattle.event_core.specs.Calls.{is_done, HonestHost}
 

@@ -1,4 +1,4 @@
-use Rattle.std.specs.Prelude.{ℕ, zero, suc, List, [], ◌∷◌, ◌++◌, Option, None, Some, Bool, true, false, ◌≡◌, ◌≢◌, ◌⊎◌, ◌+◌, ◌-◌, ◌*◌, ◌/◌, ◌^◌, ◌<◌, ◌≤◌, ◌==◌, length, map, if◌then◌else◌}
+use Rattle.std.specs.Prelude.{ℕ, zero, suc, List, [], ◌∷◌, ◌++◌, Option, None, Some, Bool, true, false, ◌≡◌, ◌≢◌, ◌⊎◌, ◌+◌, ◌*◌, ◌/◌, ◌^◌, ◌<◌, ◌==◌, length, map, if◌then◌else◌}
 use Rattle.guest_base.specs.Ranges.{in_range}
 use Rattle.guest_base.specs.Requests.{raised_slots}
 use Rattle.guest_base.specs.declared.memory.Page.{Page}
@@ -71,8 +71,8 @@ SharesPool pool calls (Some page) = (calls ≡ share_call pool Failed ∷ []) ×
 abbrev pub AcceptsBlock : Boot → List ModuleCall → Block → List ModuleCall → Option Page → Type 0
 AcceptsBlock boot before block calls stop =
     elim (block.order == 10) as (λ _. Type 0) [
-    | true ↦ (calls ≡ []) × (stop ≡ None)
-    | false ↦ AcceptsRange boot before (4096 * block.first) (4096 * 2 ^ block.order) calls stop
+      | true ↦ (calls ≡ []) × (stop ≡ None)
+      | false ↦ AcceptsRange boot before (4096 * block.first) (4096 * 2 ^ block.order) calls stop
     ]
 
 -- the stages of boot

@@ -1,4 +1,4 @@
-use Rattle.std.specs.Prelude.{ℕ, List, [], ◌∷◌, ◌++◌, Option, None, Some, Bool, true, false, ◌≡◌, ◌⊎◌, ◌&&◌, ◌<◌, nat_lt, fold, if◌then◌else◌}
+use Rattle.std.specs.Prelude.{ℕ, List, [], ◌∷◌, ◌++◌, Option, Some, Bool, true, false, ◌≡◌, ◌⊎◌, ◌&&◌, nat_lt, fold, if◌then◌else◌}
 use Rattle.std.specs.List.{flat_map}
 use Rattle.guest_base.specs.Ranges.{in_range}
 use Rattle.guest_base.specs.Levels.{level_at, level_pages}

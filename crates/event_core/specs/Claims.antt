@@ -1,4 +1,4 @@
-use Rattle.std.specs.Prelude.{ℕ, List, [], ◌∷◌, ◌++◌, Option, None, Some, Bool, true, false, ◌≡◌, ◌≢◌, ◌+◌, ◌==◌, nat_lt, fold, max, min, if◌then◌else◌}
+use Rattle.std.specs.Prelude.{ℕ, List, ◌++◌, Option, None, Some, Bool, false, ◌≡◌, ◌≢◌, ◌+◌, ◌==◌, nat_lt, fold, max, min, if◌then◌else◌}
 use Rattle.std.specs.Option.{option_map_or}
 use Rattle.guest_base.specs.Search.{first_such}
 use Rattle.guest_base.specs.declared.memory.Units.{Units}

@@ -1,4 +1,4 @@
-use Rattle.std.specs.Prelude.{ℕ, zero, suc, List, [], ◌∷◌, ◌++◌, Option, None, Some, Bool, true, false, ◌≡◌, ◌+◌, ◌-◌, ◌*◌, ◌%◌, ◌^◌, ◌==◌, ◌&&◌, nat_le, nat_lt, if◌then◌else◌}
+use Rattle.std.specs.Prelude.{ℕ, zero, suc, List, [], ◌∷◌, ◌++◌, Option, None, Some, Bool, true, false, ◌+◌, ◌-◌, ◌%◌, ◌^◌, ◌==◌, ◌&&◌, nat_le, nat_lt, if◌then◌else◌}
 use Rattle.std.specs.List.{flat_map}
 use Rattle.guest_base.specs.declared.memory.Pages.{Pages}
 use Rattle.guest_base.specs.declared.memory.Block.{Block}
@@ -49,10 +49,10 @@ unfoldable pub blocks_from : ℕ → ℕ → ℕ → List Block
 blocks_from zero first left = []
 blocks_from (suc most) first left =
     elim (left == 0) as (λ _. List Block) [
-    | true ↦ []
-    | false ↦
-        let order = order_at first left 10 in
-        record { first = first; order = order } ∷ blocks_from most (first + 2 ^ order) (left - 2 ^ order)
+      | true ↦ []
+      | false ↦
+          let order = order_at first left 10 in
+          record { first = first; order = order } ∷ blocks_from most (first + 2 ^ order) (left - 2 ^ order)
     ]
 
 abbrev pub blocks_of : Pages → List Block

@@ -1,10 +1,6 @@
-use Rattle.std.specs.Prelude.{ℕ, List, [], ◌∷◌, ◌++◌, Option, None, Some, Bool, true, false, ◌≡◌, ◌⊎◌, ◌+◌, ◌*◌, ◌/◌, ◌<◌, ◌==◌, ◌&&◌, ◌||◌, All, filter, fold, max, map, length, slice_get}
-use Rattle.guest_base.specs.declared.memory.Page.{Page}
-use Rattle.guest_base.specs.declared.memory.Units.{Units}
+use Rattle.std.specs.Prelude.{ℕ, List, [], ◌∷◌, ◌++◌, None, Some, Bool, true, false, ◌≡◌, ◌⊎◌, ◌+◌, ◌*◌, ◌/◌, ◌<◌, ◌==◌, All, filter, fold, max, map, length, slice_get}
 use Rattle.event_core.specs.declared.boot.Boot.{Boot}
-use Rattle.event_core.specs.declared.module_call.ModuleCall.{ModuleCall}
 use Rattle.event_core.specs.declared.command.Command.{Command}
-use Rattle.event_core.specs.declared.reply.Reply.{Reply}
 use Rattle.event_core.specs.declared.event.Event.{Event}
 use Rattle.event_core.specs.declared.event.Event.TheVariants as event
 use Rattle.event_core.specs.declared.entry.Place.{Place}
@@ -14,7 +10,7 @@ use Rattle.event_core.specs.Calls.{calls_in, calls_of}
 use Rattle.event_core.specs.MemoryRows.{AcceptsUnits}
 use Rattle.event_core.specs.Moved.{Moved, entries_of, made_by}
 use Rattle.event_core.specs.Own.{replied}
-use Rattle.event_core.specs.Next.{Step, next_step}
+use Rattle.event_core.specs.Next.{next_step}
 
 -- Which histories are right. An entry is judged over two lists alone: those of its processor, and the bare ones of its place.
 

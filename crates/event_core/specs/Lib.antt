@@ -11,6 +11,7 @@ pub mod Moved
 pub mod Name
 pub mod Next
 pub mod Own
+pub mod Parted
 pub mod Printed
 pub mod Refusals
 pub mod Runs

@@ -1,4 +1,4 @@
-use Rattle.std.specs.Prelude.{ℕ, List, [], ◌∷◌, ◌++◌, Option, None, Some, Bool, true, false, ◌≡◌, ◌+◌, ◌*◌, ◌&&◌, is_some}
+use Rattle.std.specs.Prelude.{ℕ, List, ◌++◌, Option, None, Some, Bool, true, false, ◌+◌, ◌*◌, ◌&&◌}
 use Rattle.std.specs.Option.{option_and_then, option_map_or}
 use Rattle.guest_base.specs.Ranges.{in_range}
 use Rattle.guest_base.specs.Search.{any_such}
@@ -10,7 +10,7 @@ use Rattle.guest_base.specs.declared.memory.PageState.TheVariants.{Pending, Acce
 use Rattle.event_core.specs.declared.boot.Boot.{Boot}
 use Rattle.event_core.specs.declared.module_call.ModuleCall.{ModuleCall}
 use Rattle.event_core.specs.declared.event.Event.{Event}
-use Rattle.event_core.specs.declared.event.Event.TheVariants.{Claim, Report, Asked}
+use Rattle.event_core.specs.declared.event.Event.TheVariants.{Claim, Report}
 use Rattle.event_core.specs.declared.entry.Entry.{Entry}
 use Rattle.event_core.specs.Calls.{calls_of, state_after}
 use Rattle.event_core.specs.Runs.{state_in}

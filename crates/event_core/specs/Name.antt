@@ -1,4 +1,4 @@
-use Rattle.std.specs.Prelude.{ℕ, List, Bool, ◌<◌, ◌≤◌, ◌&&◌, ◌||◌, ◌==◌, ◌≡◌, nat_le, length, All, true}
+use Rattle.std.specs.Prelude.{ℕ, List, Bool, ◌≤◌, ◌&&◌, ◌||◌, ◌==◌, ◌≡◌, nat_le, length, All, true}
 
 -- a to z, A to Z, 0 to 9 and the underscore
 abbrev pub name_character : ℕ → Bool

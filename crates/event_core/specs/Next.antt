@@ -1,4 +1,4 @@
-use Rattle.std.specs.Prelude.{ℕ, List, [], ◌∷◌, Option, None, Some, Bool}
+use Rattle.std.specs.Prelude.{ℕ, List, Option, None, Some}
 use Rattle.std.specs.Option.{option_and_then, option_map}
 use Rattle.guest_base.specs.declared.memory.Page.{Page}
 use Rattle.guest_base.specs.declared.memory.Units.{Units}

@@ -1,10 +1,9 @@
-use Rattle.std.specs.Prelude.{ℕ, List, [], ◌∷◌, Option, None, Some, is_some, count_by, slice_get}
+use Rattle.std.specs.Prelude.{ℕ, List, Option, is_some, count_by, slice_get}
 use Rattle.std.specs.Option.{option_and_then}
 use Rattle.std.specs.List.{filter_map}
 use Rattle.event_core.specs.declared.command.Command.{Command}
 use Rattle.event_core.specs.declared.reply.Reply.{Reply}
-use Rattle.event_core.specs.declared.entry.Entry.{Entry}
-use Rattle.event_core.specs.Moved.{Moved, entries_of, made_by}
+use Rattle.event_core.specs.Moved.{Moved}
 
 -- What a processor's own entries tell of it.
 

@@ -1,7 +1,6 @@
-use Rattle.std.specs.Prelude.{ℕ, List, Option, ◌≡◌, map, length}
+use Rattle.std.specs.Prelude.{ℕ, List, Option, ◌≡◌, map}
 use Rattle.guest_base.specs.declared.memory.PageRun.{PageRun}
 use Rattle.event_core.specs.declared.boot.Boot.{Boot}
-use Rattle.event_core.specs.declared.command.Command.{Command}
 use Rattle.event_core.specs.declared.reply.Reply.{Reply}
 use Rattle.event_core.specs.declared.entry.Entry.{Entry}
 use Rattle.event_core.specs.Calls.{calls_of}

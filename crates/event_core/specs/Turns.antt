@@ -1,13 +1,10 @@
-use Rattle.std.specs.Prelude.{ℕ, zero, suc, List, [], ◌∷◌, ◌++◌, Option, None, Some, Bool, true, false, ◌≡◌, ◌+◌, is_none, length, slice_get, IsPermutation, replicate}
-use Rattle.std.specs.List.{flat_map}
-use Rattle.guest_base.specs.declared.memory.CpuNo.{CpuNo}
+use Rattle.std.specs.Prelude.{ℕ, zero, suc, List, [], ◌∷◌, ◌++◌, Bool, true, false, ◌≡◌, ◌+◌, is_none, length, IsPermutation}
 use Rattle.event_core.specs.declared.boot.Boot.{Boot}
 use Rattle.event_core.specs.declared.command.Command.{Command}
 use Rattle.event_core.specs.declared.entry.Entry.{Entry}
-use Rattle.event_core.specs.declared.entry.Place.{Place}
 use Rattle.event_core.specs.Moved.{Moved, entries_of, made_by}
 use Rattle.event_core.specs.Next.{next_step}
-use Rattle.event_core.specs.Legal.{Follows, with_bytes, at_place, place_of}
+use Rattle.event_core.specs.Legal.{Follows, with_bytes, at_place}
 use Rattle.event_core.specs.declared.entry.Place.TheVariants.{Memory}
 
 -- Turns on one thread (own rule).
@@ -24,11 +21,11 @@ TakenIn boot scripts history [] taken = taken ≡ []
 TakenIn boot scripts history (cpu ∷ turns) [] = (is_idle boot scripts history cpu ≡ true) × TakenIn boot scripts history turns []
 TakenIn boot scripts history (cpu ∷ turns) (entry ∷ taken) =
     elim (is_idle boot scripts history cpu) as (λ _. Type 0) [
-    | true ↦ TakenIn boot scripts history turns (entry ∷ taken)
-    | false ↦
-        (entry.cpu.0 ≡ cpu)
-        × Follows boot scripts history entry
-        × TakenIn boot scripts (history ++ with_bytes boot history entry ∷ []) turns taken
+      | true ↦ TakenIn boot scripts history turns (entry ∷ taken)
+      | false ↦
+          (entry.cpu.0 ≡ cpu)
+          × Follows boot scripts history entry
+          × TakenIn boot scripts (history ++ with_bytes boot history entry ∷ []) turns taken
     ]
 
 -- so many numbers from one on

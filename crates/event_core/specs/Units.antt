@@ -1,10 +1,9 @@
-use Rattle.std.specs.Prelude.{ℕ, List, Option, None, Some, Bool, true, false, ◌+◌, ◌-◌, ◌*◌, ◌/◌, ◌%◌, ◌==◌, ◌&&◌, nat_lt, nat_le, fold, length, slice_index, max, min, if◌then◌else◌}
+use Rattle.std.specs.Prelude.{ℕ, List, Option, None, Some, Bool, true, false, ◌+◌, ◌-◌, ◌*◌, ◌/◌, ◌%◌, ◌==◌, ◌&&◌, nat_lt, fold, length, slice_index, max, min, if◌then◌else◌}
 use Rattle.std.specs.Int.{bit_at}
 use Rattle.guest_base.specs.Search.{first_such, any_such, count_such, row_length}
 use Rattle.guest_base.specs.declared.memory.Units.{Units}
 use Rattle.event_core.specs.declared.boot.Boot.{Boot}
 use Rattle.event_core.specs.declared.module_call.ModuleCall.{ModuleCall}
-use Rattle.event_core.specs.declared.module_call.CallKind.{CallKind}
 use Rattle.event_core.specs.declared.module_call.CallKind.TheVariants.{Accept, Share, Unshare}
 use Rattle.event_core.specs.Calls.{is_done, covers}
 

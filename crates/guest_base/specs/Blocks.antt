@@ -1,18 +1,7 @@
-use Rattle.std.specs.Prelude.{ℕ, zero, suc, ◌+◌, ◌-◌, ◌*◌, ◌/◌, ◌^◌, Bool, true, false, not, ◌&&◌, ◌||◌, ◌==◌, Option, Some, None}
+use Rattle.std.specs.Prelude.{ℕ, zero, suc, ◌+◌, ◌-◌, ◌*◌, ◌/◌, ◌^◌, Bool, not, ◌&&◌, ◌||◌, ◌==◌, Option, Some, None}
 use Rattle.std.specs.Option.{option_map}
+use Rattle.guest_base.specs.Search.{first_such, each_such}
 use Rattle.guest_base.specs.declared.memory.Block.{Block}
-
--- the first number that passes a test, of `count` numbers from `from` on
-unfoldable pub first_such : (ℕ → Bool) → ℕ → ℕ → Option ℕ
-first_such test from zero = None
-first_such test from (suc count) =
-    elim (test from) as (λ _. Option ℕ) [ true ↦ Some from | false ↦ first_such test (from + 1) count ]
-
--- whether each of `count` numbers from `from` on passes a test
-unfoldable pub each_such : (ℕ → Bool) → ℕ → ℕ → Bool
-each_such test from zero = true
-each_such test from (suc count) =
-    elim (test from) as (λ _. Bool) [ true ↦ each_such test (from + 1) count | false ↦ false ]
 
 -- The blocks of an order are numbered as in the page allocator: block n of order k has the 2^k
 -- pages from n * 2^k on. Blocks 2n and 2n + 1 are buddies, the halves of block n of the next order.

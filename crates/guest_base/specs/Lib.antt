@@ -1,6 +1,7 @@
 pub mod Blocks
 pub mod Counts
 pub mod Levels
+pub mod Parts
 pub mod Ranges
 pub mod Requests
 pub mod Search

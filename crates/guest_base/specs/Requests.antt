@@ -2,7 +2,7 @@ use Rattle.std.specs.Prelude.{ℕ, ◌+◌, ◌*◌, ◌/◌, ◌^◌, ◌==◌,
 use Rattle.guest_base.specs.declared.transfer.Align.{Align}
 use Rattle.guest_base.specs.declared.transfer.Align.TheVariants.{Any, Even, Odd}
 use Rattle.guest_base.specs.declared.transfer.Request.{Request}
-use Rattle.guest_base.specs.Slots.{first_from}
+use Rattle.guest_base.specs.Search.{first_such}
 
 -- A mapping of len bytes from the address addr on keeps the bits of the address that its mask names. A slot is 2,048 bytes,
 -- and an odd slot is the second half of a page.
@@ -42,7 +42,7 @@ request_of addr len mask = record {
 
 -- the least power of two that is at least n
 abbrev pub raised_to_power : ℕ → ℕ
-raised_to_power n = 2 ^ unwrap_or (first_from (λ k. nat_le n (2 ^ k)) 0 (n + 1)) 0
+raised_to_power n = 2 ^ unwrap_or (first_such (λ k. nat_le n (2 ^ k)) 0 (n + 1)) 0
 
 -- the size of a pool for which these slots were asked: a segment for each area at least, and then a power of two (swiotlb.c)
 abbrev pub raised_slots : ℕ → ℕ → ℕ

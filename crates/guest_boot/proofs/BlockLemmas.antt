@@ -57,8 +57,8 @@ greatest_from zero first left f l = tt
 greatest_from (suc most) first left f l =
     let Front : ℕ → List Block = λ order. record { first = first; order = order } ∷ blocks_from most (first + 2 ^ order) (left - 2 ^ order) in
     let front = λ (n : (left == 0) ≡ false).
-        (let room = left_some left l n in
-        subst (λ order. AllByRecursion Greatest (Front order)) (sym (order_ten first left f room)) (refl, greatest_from most (first + 1024) (left - 1024) (omega (arith, f)) (omega (arith, l, room)))) in
+    (let room = left_some left l n in
+    subst (λ order. AllByRecursion Greatest (Front order)) (sym (order_ten first left f room)) (refl, greatest_from most (first + 1024) (left - 1024) (omega (arith, f)) (omega (arith, l, room)))) in
     greatest_case (left == 0) (Front (order_at first left 10)) front
 
 both : {A : Type 0} (P : A → Type 0) (xs ys : List A) → AllByRecursion P xs → AllByRecursion P ys → AllByRecursion P (xs ++ ys)

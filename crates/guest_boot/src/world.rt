@@ -73,6 +73,5 @@ fn booted(alloc: Global, ram: Runs, bits: &Option<Bitmap>) -> Result<Boot, Alloc
 fn are_whole_blocks(runs: &[PageRun]) -> bool
     ensures { IsTrue result → All IsWholeBlocks runs.now }
 {
-    runs.iter()
-        .all(|run| run.pages.first % BLOCK_PAGES == 0 && run.pages.count % BLOCK_PAGES == 0)
+    runs.iter().all(|run| run.pages.first % BLOCK_PAGES == 0 && run.pages.count % BLOCK_PAGES == 0)
 }

@@ -32,12 +32,12 @@ length-push xs x = length-append xs (x ∷ [])
 
 -- a run goes on by a step
 pub at-push : (boot : Boot) (script : List Command) (entries : List Entry) (number more : ℕ) (claim after : Option Claimed) (table next : ℕ → Option PageState) (set cleared : ℕ → Bool) (s : Step) → At boot script entries number claim table set
-  → next_step boot (script ∷ []) 0 (with_moved boot entries) (entries_of (at_place (place_of boot s.event) (with_moved boot entries))) (calls_in s.event) ≡ Some s
-  → CallsFit boot (entries_of (at_place (place_of boot s.event) (with_moved boot entries))) s.event
-  → claim_step boot (calls_of boot entries) claim s.event ≡ after
-  → Stands boot (calls_of boot entries ++ calls_in s.event) next cleared
-  → number + cond (is_some s.reply) 1 0 ≡ more
-  → At boot script (entries ++ made_entry boot entries number s ∷ []) more after next cleared
+    → next_step boot (script ∷ []) 0 (with_moved boot entries) (entries_of (at_place (place_of boot s.event) (with_moved boot entries))) (calls_in s.event) ≡ Some s
+    → CallsFit boot (entries_of (at_place (place_of boot s.event) (with_moved boot entries))) s.event
+    → claim_step boot (calls_of boot entries) claim s.event ≡ after
+    → Stands boot (calls_of boot entries ++ calls_in s.event) next cleared
+    → number + cond (is_some s.reply) 1 0 ≡ more
+    → At boot script (entries ++ made_entry boot entries number s ∷ []) more after next cleared
 at-push boot script entries number more claim after table next set cleared s at step fits claimed stands is =
     let entry = entry_for (length entries) (replied (with_moved boot entries)) boot s in
     let same : entry ≡ made_entry boot entries number s = ap (λ n. entry_for (length entries) n boot s) at.present in
@@ -93,7 +93,7 @@ at-claim boot script entries number start len table set units run at now fine is
     let placed = running-placed boot (script ∷ []) entries (length entries) at.running in
     at-push boot script entries number (number_after number (claim_reply run)) None (opened None units run (calls_of boot entries)) table table set set (claim_made units run) at
     (claim-next boot script entries start len at.cpus placed here fine at.claims
-      ∙ ap (λ u. Some (claim_made u (run_of_claim boot entries u))) (sym is_units) ∙ ap (λ r. Some (claim_made units r)) (sym is_run))
+    ∙ ap (λ u. Some (claim_made u (run_of_claim boot entries u))) (sym is_units) ∙ ap (λ r. Some (claim_made units r)) (sym is_run))
     tt refl (still boot entries table set at.stands) refl
 
 -- a report
@@ -101,7 +101,7 @@ abbrev pub report_made : Boot → Claimed → List ModuleCall → ℕ → Step
 report_made boot claim calls cleared = record { event = report_event boot claim calls; reply = report_reply (stop_of calls) (next_run boot claim (stop_of calls)) cleared }
 
 pub at-report : (boot : Boot) (script : List Command) (entries : List Entry) (number start len : ℕ) (claim : Claimed) (calls : List ModuleCall) (cleared : ℕ) (table next : ℕ → Option PageState) (set clear : ℕ → Bool) → At boot script entries number (Some claim) table set → slice_get script number ≡ Some (command.Accept start len) → memory_range_refusal start len ≡ None → AcceptsUnits boot (calls_of boot entries) claim.run calls → Stands boot (calls_of boot entries ++ calls) next clear → cleared ≡ cleared_by boot entries claim calls
-  → At boot script (entries ++ made_entry boot entries number (report_made boot claim calls cleared) ∷ []) (number_after number (report_made boot claim calls cleared).reply) (goes_on boot (calls_of boot entries) calls (Some claim) (stop_of calls) (next_run boot claim (stop_of calls))) next clear
+    → At boot script (entries ++ made_entry boot entries number (report_made boot claim calls cleared) ∷ []) (number_after number (report_made boot claim calls cleared).reply) (goes_on boot (calls_of boot entries) calls (Some claim) (stop_of calls) (next_run boot claim (stop_of calls))) next clear
 at-report boot script entries number start len claim calls cleared table next set clear at now fine accepts stands is =
     let here : slice_get script (replied (with_moved boot entries)) ≡ Some (command.Accept start len) = ap (slice_get script) at.present ∙ now in
     let placed = running-placed boot (script ∷ []) entries (length entries) at.running in

@@ -26,7 +26,7 @@ pub pending-first : (span : Taken) (first count : ℕ) (run : Pages) → IsFirst
 pending-first span first count run is =
     let low = is.from_on in
     elim (cases_lt (run.first - first) count) [
-      inl near ↦
+      | inl near ↦
           (let yes : nat_lt (run.first - first) count ≡ true = grind arith in
           let some = is.some in
           yes ∙ sym (any_such_is (pending_of span) first count run.first low (omega arith) (is_pending-Some _ (is.pending run.first (in_range-intro run.first run.count run.first (omega arith) (omega arith))))))
@@ -84,7 +84,7 @@ one-kept mid at = record { size = refl; here = sym (and-true (bit_of mid.bits at
 
 nat-cases : (a b : ℕ) → (a ≡ b) ⊎ (a ≢ b)
 nat-cases a b = elim (cases_Bool (a == b)) [
-  inl t ↦ inl (eqb-true a b t)
+  | inl t ↦ inl (eqb-true a b t)
   | inr f ↦ inr (λ e. let no : true ≡ false = sym (eq-eqb a b e) ∙ f in cc)
 ]
 
@@ -96,15 +96,15 @@ pub cleared-more : (old mid new : Bits) (pending : ℕ → Bool) (first at : ℕ
 cleared-more old mid new pending first at any low cleared is one = record {
   size = one.size ∙ cleared.size;
   each = λ unit. elim (nat-cases unit at) [
-    inl same ↦
+    | inl same ↦
         (let outside : in_range first (at - first) at ≡ false = grind arith in
         let inside : in_range first (at + 1 - first) at ≡ true = grind arith in
         let Q : ℕ → Type 0 = λ u. bit_of new.bits u ≡ cond (in_range first (at + 1 - first) u) (bit_of old.bits u && any_such pending (unit_first_of old u) (unit_pages_of old)) (bit_of old.bits u) in
         subst Q (sym same)
-          (one.here
-          ∙ ap (λ b. b && any) (cleared.each at ∙ ap (λ t. cond t (bit_of old.bits at && any_such pending (unit_first_of old at) (unit_pages_of old)) (bit_of old.bits at)) outside)
-          ∙ ap (λ a. bit_of old.bits at && a) is
-          ∙ sym (ap (λ t. cond t (bit_of old.bits at && any_such pending (unit_first_of old at) (unit_pages_of old)) (bit_of old.bits at)) inside)))
+        (one.here
+        ∙ ap (λ b. b && any) (cleared.each at ∙ ap (λ t. cond t (bit_of old.bits at && any_such pending (unit_first_of old at) (unit_pages_of old)) (bit_of old.bits at)) outside)
+        ∙ ap (λ a. bit_of old.bits at && a) is
+        ∙ sym (ap (λ t. cond t (bit_of old.bits at && any_such pending (unit_first_of old at) (unit_pages_of old)) (bit_of old.bits at)) inside)))
     | inr other ↦
         (let again : in_range first (at - first) unit ≡ in_range first (at + 1 - first) unit = same-range first at unit low other in
         one.others unit other ∙ cleared.each unit

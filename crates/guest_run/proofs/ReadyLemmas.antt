@@ -118,7 +118,7 @@ AfterReport p memory number units run before calls cleared more stopped next =
     (goes_on p.boot (calls_of p.boot p.entries) calls (Some (claim_with before units run cleared)) stopped next) (table_of memory) (bits_in memory.bits)
 
 after-report : (p : Processor) (number cleared more : ℕ) (units run : Units) (made calls : List ModuleCall) (memory : Memory) (stopped : Option Page) (next : Option Units) (c : Claiming p number units run cleared made) → AcceptsUnits p.boot (calls_of p.boot p.entries) run calls → Stands p.boot (calls_of p.boot p.entries ++ calls) (table_of memory) (bits_in memory.bits) → more ≡ cleared + units_cleared p.boot (calls_of p.boot p.entries) (calls_of p.boot p.entries ++ calls) run → stopped ≡ stop_of calls → next ≡ next_by (bits_in memory.bits) units run stopped
-  → AfterReport p memory number units run c.before calls cleared more stopped next
+    → AfterReport p memory number units run c.before calls cleared more stopped next
 after-report p number cleared more units run made calls memory stopped next c accepts stands is_more is_stop is_next =
     let claim = claim_with c.before units run cleared in
     let base = at-report p.boot p.script p.entries number c.start c.len claim calls more (table_of p.memory) (table_of memory) (bits_in p.memory.bits) (bits_in memory.bits) c.at c.command c.fine accepts stands is_more in
@@ -133,7 +133,7 @@ ended_at p number cleared more units run calls before memory (Some page) at = at
 
 -- what the report leaves
 report_ends : (p : Processor) (number cleared more : ℕ) (units run : Units) (made now calls : List ModuleCall) (memory : Memory) (stopped : Option Page) (next : Option Units) (c : Claiming p number units run cleared made) → AcceptsUnits p.boot (calls_of p.boot p.entries) run calls → Stands p.boot (calls_of p.boot p.entries ++ calls) (table_of memory) (bits_in memory.bits) → KeptFor p.boot memory → more ≡ cleared + units_cleared p.boot (calls_of p.boot p.entries) (calls_of p.boot p.entries ++ calls) run → more ≤ cleared + run.count → next ≡ next_by (bits_in memory.bits) units run stopped → now ≡ made ++ calls
-  → AfterReport p memory number units run c.before calls cleared more stopped next → EndsOr (with_entry p memory number (reported run calls stopped next more)) number units more now next
+    → AfterReport p memory number units run c.before calls cleared more stopped next → EndsOr (with_entry p memory number (reported run calls stopped next more)) number units more now next
 report_ends p number cleared more units run made now calls memory stopped None c accepts stands kept is_more few is_next is_now at = record {
   at = ended_at p number cleared more units run calls c.before memory stopped at;
   kept = kept;
@@ -164,7 +164,7 @@ report_ends p number cleared more units run made now calls memory None (Some nex
     }
 
 pub report-goes : (p : Processor) (number cleared more : ℕ) (units run : Units) (made now calls : List ModuleCall) (memory : Memory) (stopped : Option Page) (next : Option Units) (c : Claiming p number units run cleared made) → AcceptsUnits p.boot (calls_of p.boot p.entries) run calls → Stands p.boot (calls_of p.boot p.entries ++ calls) (table_of memory) (bits_in memory.bits) → KeptFor p.boot memory → more ≡ cleared + units_cleared p.boot (calls_of p.boot p.entries) (calls_of p.boot p.entries ++ calls) run → more ≤ cleared + run.count → stopped ≡ stop_of calls → next ≡ next_by (bits_in memory.bits) units run stopped → now ≡ made ++ calls
-  → EndsOr (with_entry p memory number (reported run calls stopped next more)) number units more now next
+    → EndsOr (with_entry p memory number (reported run calls stopped next more)) number units more now next
 report-goes p number cleared more units run made now calls memory stopped next c accepts stands kept is_more few is_stop is_next is_now =
     report_ends p number cleared more units run made now calls memory stopped next c accepts stands kept is_more few is_next is_now
     (after-report p number cleared more units run made calls memory stopped next c accepts stands is_more is_stop is_next)
@@ -226,8 +226,8 @@ run-same boot entries set None bits = refl
 run-same boot entries set (Some u) bits = first_run-same set (bit_after boot (calls_of boot entries)) u.first (u.first + u.count) (λ unit low. bits unit)
 
 claimed_ends : (p : Processor) (number start len : ℕ) (made : List ModuleCall) (units run : Option Units) → Ready p number made → slice_get p.script number ≡ Some (command.Accept start len) → memory_range_refusal start len ≡ None → run ≡ option_and_then (λ (u : Units). first_run (bits_in p.memory.bits) u.first (u.first + u.count)) units
-  → At p.boot p.script (p.entries ++ made_entry p.boot p.entries number (claim_made units run) ∷ []) (number_after number (claim_reply run)) (opened None units run (calls_of p.boot p.entries)) (table_of p.memory) (bits_in p.memory.bits)
-  → ClaimedOr (with_entry p p.memory number (claim_made units run)) number made (both_or_none units run)
+    → At p.boot p.script (p.entries ++ made_entry p.boot p.entries number (claim_made units run) ∷ []) (number_after number (claim_reply run)) (opened None units run (calls_of p.boot p.entries)) (table_of p.memory) (bits_in p.memory.bits)
+    → ClaimedOr (with_entry p p.memory number (claim_made units run)) number made (both_or_none units run)
 claimed_ends p number start len made None None ready now fine is at = record { at = at; kept = ready.kept; calls = calls-kept p made number (claim_made None None) refl ready.calls }
 claimed_ends p number start len made (Some u) None ready now fine is at = record { at = at; kept = ready.kept; calls = calls-kept p made number (claim_made (Some u) None) refl ready.calls }
 claimed_ends p number start len made None (Some r) ready now fine is at = cc
@@ -253,8 +253,8 @@ claimed_ends p number start len made (Some u) (Some r) ready now fine is at =
     }
 
 pub ready-claim : (p : Processor) (number start len : ℕ) (made : List ModuleCall) (units run : Option Units) → Ready p number made → slice_get p.script number ≡ Some (command.Accept start len) → memory_range_refusal start len ≡ None → units ≡ guarded_by p.memory.bits start len → run ≡ option_and_then (λ (u : Units). first_run (bits_in p.memory.bits) u.first (u.first + u.count)) units
-  → ClaimedOr (with_entry p p.memory number (claim_made units run)) number made (both_or_none units run)
+    → ClaimedOr (with_entry p p.memory number (claim_made units run)) number made (both_or_none units run)
 ready-claim p number start len made units run ready now fine is_units is_run =
     claimed_ends p number start len made units run ready now fine is_run
     (at-claim p.boot p.script p.entries number start len (table_of p.memory) (bits_in p.memory.bits) units run ready.at now fine
-      (is_units ∙ guarded-same p.boot p.memory.bits start len ready.kept.same) (is_run ∙ run-same p.boot p.entries (bits_in p.memory.bits) units ready.at.stands.bits))
+    (is_units ∙ guarded-same p.boot p.memory.bits start len ready.kept.same) (is_run ∙ run-same p.boot p.entries (bits_in p.memory.bits) units ready.at.stands.bits))

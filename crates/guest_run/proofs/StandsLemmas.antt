@@ -94,17 +94,17 @@ apart-pages boot run unit page out inside =
     let size = unit_pages boot in
     let base = boot.base / 4096 in
     elim (cases_lt unit run.first) [
-      inl below ↦
+      | inl below ↦
           (let le : (unit + 1) * size ≤ run.first * size = mul-le-mul_right size (let l : unit + 1 ≤ run.first = omega arith in l) in
           let more : (unit + 1) * size ≡ unit * size + size = omega arith in
           in_range-below (pages_first boot run) (pages_count boot run) page (omega (arith, here.1, le, more)))
       | inr low ↦ elim (cases_lt unit (run.first + run.count)) [
-          inl high ↦ (let no : true ≡ false = sym (in_range-intro run.first run.count unit low high) ∙ out in cc)
-          | inr above ↦
-              (let le : (run.first + run.count) * size ≤ unit * size = mul-le-mul_right size above in
-              let more : (run.first + run.count) * size ≡ run.first * size + run.count * size = omega arith in
-              in_range-past (pages_first boot run) (pages_count boot run) page (omega (arith, here.0, le, more)))
-        ]
+        | inl high ↦ (let no : true ≡ false = sym (in_range-intro run.first run.count unit low high) ∙ out in cc)
+        | inr above ↦
+            (let le : (run.first + run.count) * size ≤ unit * size = mul-le-mul_right size above in
+            let more : (run.first + run.count) * size ≡ run.first * size + run.count * size = omega arith in
+            in_range-past (pages_first boot run) (pages_count boot run) page (omega (arith, here.0, le, more)))
+      ]
     ]
 
 -- the pages of a unit of a run are the run's
@@ -130,12 +130,12 @@ pub bits-outside : (boot : Boot) (calls now : List ModuleCall) (run : Units) (un
 unfolding bit_after pending_in
 bits-outside boot calls now run unit steps out =
     when-set (bit_of boot.bits unit) _ _ (λ set.
-      any_such_same (is_marked true (calls ++ now)) (is_marked true calls) (unit_first boot unit) (unit_pages boot) (record {
-        same = λ page low high.
-            let apart = apart-pages boot run unit page out (in_range-intro (unit_first boot unit) (unit_pages boot) page low high) in
-            fold-append (mark_step page) true calls now
-            ∙ marks-outside boot.hosts _ _ _ None now (is_marked true calls page) page (ap (λ b. b && is_pending (page_state boot calls page)) apart) steps;
-      }))
+    any_such_same (is_marked true (calls ++ now)) (is_marked true calls) (unit_first boot unit) (unit_pages boot) (record {
+      same = λ page low high.
+          let apart = apart-pages boot run unit page out (in_range-intro (unit_first boot unit) (unit_pages boot) page low high) in
+          fold-append (mark_step page) true calls now
+          ∙ marks-outside boot.hosts _ _ _ None now (is_marked true calls page) page (ap (λ b. b && is_pending (page_state boot calls page)) apart) steps;
+    }))
 
 -- a bit of the run is set where a page of the unit is pending
 pub bits-inside : (boot : Boot) (calls : List ModuleCall) (unit : ℕ) → MarksArePending boot calls → bit_of boot.bits unit ≡ true → bit_after boot calls unit ≡ any_such (λ page. is_pending (page_state boot calls page)) (unit_first boot unit) (unit_pages boot)
@@ -199,7 +199,7 @@ run-states : (boot : Boot) (calls now : List ModuleCall) (run : Units) (table ne
 run-states boot calls now run table next old new bits cleared stands one page =
     let after = ap (λ (f : ℕ → Option PageState). f page) (state_after-append (state_by boot.ram) calls now) in
     elim (cases_Bool (in_range (pages_first boot run) (pages_count boot run) page)) [
-      inl t ↦
+      | inl t ↦
           one.put page ∙ ap (λ b. cond b (new page) (table page)) t ∙ one.made page
           ∙ state_after-same old (page_state boot calls) now page (one.taken page ∙ ap (λ b. cond b (table page) None) t ∙ stands.states page)
           ∙ sym after
@@ -217,7 +217,7 @@ run-page boot calls now run table next old new bits cleared stands one page t =
 run-bits : (boot : Boot) (calls now : List ModuleCall) (run : Units) (table next old new : ℕ → Option PageState) (bits cleared : ℕ → Bool) → Stands boot calls table bits → OneRun boot run now table next old new bits cleared → MarksArePending boot (calls ++ now) → (unit : ℕ) → cleared unit ≡ bit_after boot (calls ++ now) unit
 run-bits boot calls now run table next old new bits cleared stands one marks unit =
     elim (cases_Bool (in_range run.first run.count unit)) [
-      inl t ↦
+      | inl t ↦
           (let set : bit_of boot.bits unit ≡ true = bit-was boot calls unit (sym (stands.bits unit) ∙ one.set unit t) in
           one.clears unit ∙ ap (λ b. cond b (any_such (λ page. is_pending (new page)) (unit_first boot unit) (unit_pages boot)) (bits unit)) t
           ∙ any_such_same (λ page. is_pending (new page)) (λ page. is_pending (page_state boot (calls ++ now) page)) (unit_first boot unit) (unit_pages boot) (record {
@@ -254,7 +254,7 @@ run-cleared boot calls now run table next old new bits cleared stands one =
           let t = in_range-intro run.first run.count unit low high in
           let before : bit_after boot calls unit ≡ true = sym (stands.bits unit) ∙ one.set unit t in
           let later : bit_after boot (calls ++ now) unit ≡ any_such (λ page. is_pending (new page)) (unit_first boot unit) (unit_pages boot) =
-              sym (after.bits unit) ∙ one.clears unit ∙ ap (λ b. cond b (any_such (λ page. is_pending (new page)) (unit_first boot unit) (unit_pages boot)) (bits unit)) t in
+          sym (after.bits unit) ∙ one.clears unit ∙ ap (λ b. cond b (any_such (λ page. is_pending (new page)) (unit_first boot unit) (unit_pages boot)) (bits unit)) t in
           ap (λ b. b && (if bit_after boot (calls ++ now) unit then false else true)) before ∙ ap (λ b. if b then false else true) later ∙ if-not _;
     })
 

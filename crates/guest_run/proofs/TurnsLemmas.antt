@@ -53,7 +53,7 @@ accept-some : (boot : Boot) (memory : List Entry) (claim : Option Claimed) (unit
 accept-some boot memory (Some claim) units one is = refl
 accept-some boot memory None units one is =
     ap (λ e. is_none (option_map (λ x. let s : Step = record { event = x; reply = claim_reply (run_of_claim boot memory units) } in s) e))
-      (ap (λ way. elim way as (λ _. Option Event) [ None ↦ Some (event.Claim None units (run_of_claim boot memory units)) | Some _ ↦ None ]) (clear-way boot memory units one (sym is)))
+    (ap (λ way. elim way as (λ _. Option Event) [ None ↦ Some (event.Claim None units (run_of_claim boot memory units)) | Some _ ↦ None ]) (clear-way boot memory units one (sym is)))
 
 refused-some : (refusal : Option Reply) (step : Option Step) → is_none step ≡ false → is_none (refused_or refusal step) ≡ false
 refused-some None step h = h
@@ -91,7 +91,7 @@ taken-one boot script history (entry ∷ entries) one first mine legal =
     let P : ℕ → Type 0 = λ cpu. next_step boot (script ∷ []) cpu (made_by cpu history) (entries_of (at_place entry.place history)) (calls_in entry.event) ≡ Some (record { event = entry.event; reply = entry.reply }) in
     let idle = not-idle boot script (made_by 0 history) (entries_of (at_place place.Memory history)) (entries_of (at_place entry.place history)) (calls_in entry.event) (record { event = entry.event; reply = entry.reply }) one first (subst P mine.0 legal.0.over.step) in
     taken-if (is_idle boot (script ∷ []) history 0) _ _ idle
-      (mine.0, legal.0, taken-one boot script (history ++ with_bytes boot history entry ∷ []) entries one first mine.1 legal.2)
+    (mine.0, legal.0, taken-one boot script (history ++ with_bytes boot history entry ∷ []) entries one first mine.1 legal.2)
 
 mine-of : (boot : Boot) (moved : List Moved) → AllByRecursion (IsMine boot) moved → AllByRecursion (λ (e : Entry). e.cpu.0 ≡ 0) (entries_of moved)
 mine-of boot [] all = tt
@@ -134,7 +134,7 @@ marked-any first count some = any_such_is (λ page. true) first count first (ome
 pub first-bit : (boot : Boot) (unit : ℕ) → 0 < unit_pages boot → bit_after boot [] unit ≡ bit_of boot.bits unit
 unfolding bit_after
 first-bit boot unit some = elim (cases_Bool (bit_of boot.bits unit)) [
-  inl t ↦ ap (λ b. elim b as (λ _. Bool) [ true ↦ any_such (λ page. true) (unit_first boot unit) (unit_pages boot) | false ↦ false ]) t ∙ marked-any (unit_first boot unit) (unit_pages boot) some ∙ sym t
+  | inl t ↦ ap (λ b. elim b as (λ _. Bool) [ true ↦ any_such (λ page. true) (unit_first boot unit) (unit_pages boot) | false ↦ false ]) t ∙ marked-any (unit_first boot unit) (unit_pages boot) some ∙ sym t
   | inr f ↦ ap (λ b. elim b as (λ _. Bool) [ true ↦ any_such (λ page. true) (unit_first boot unit) (unit_pages boot) | false ↦ false ]) f ∙ sym f
 ]
 

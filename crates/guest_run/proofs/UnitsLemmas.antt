@@ -40,7 +40,7 @@ pub unit-with : (base size first count page : ℕ) → base + first * size ≤ p
 unit-with base size first zero page low high = absurd (omega arith)
 unit-with base size first (suc count) page low high =
     elim (cases_lt page (base + first * size + size)) [
-      inl here ↦ record { unit = first; low = omega arith; high = omega arith; begins = low; ends = here }
+      | inl here ↦ record { unit = first; low = omega arith; high = omega arith; begins = low; ends = here }
       | inr later ↦
           (let next : base + (first + 1) * size ≤ page = omega arith in
           let end : page < base + (first + 1) * size + count * size = omega arith in
@@ -115,7 +115,7 @@ one-run boot table next b new_bits run calls cleared same all w =
       put = λ page. w.back page ∙ ap (λ t. cond t (state_in w.left page) (state_in table page)) (inside page);
       clears = λ unit. w.clears.each unit ∙ cleared-bit (in_range run.first run.count unit) (bit_of b.bits unit) _ _ (all unit)
           ∙ ap (λ any. cond (in_range run.first run.count unit) any (bit_of b.bits unit))
-              (ap (λ f. any_such (λ page. is_pending (state_in w.left page)) f (unit_pages_of b)) (same-first boot b unit same) ∙ ap (any_such (λ page. is_pending (state_in w.left page)) (unit_first boot unit)) (same-pages boot b same));
+          (ap (λ f. any_such (λ page. is_pending (state_in w.left page)) f (unit_pages_of b)) (same-first boot b unit same) ∙ ap (any_such (λ page. is_pending (state_in w.left page)) (unit_first boot unit)) (same-pages boot b same));
     }
 
 -- the units that were cleared, over the boot

@@ -23,13 +23,13 @@ choose-in false x y z = refl
 
 -- what was done with the span, in the words of the contract
 pub worked-on : (hosts : List HostRun) (table rest next : List PageRun) (old new : Taken) (pages : Pages) (bits new_bits : Bits) (run : Units) (calls : List ModuleCall) (cleared : ℕ) → pages.first ≡ unit_first_of bits run.first → pages.count ≡ run.count * unit_pages_of bits → old.ticket.pages ≡ pages
-  → ((page : ℕ) → state_in old.runs page ≡ cond (in_range pages.first pages.count page) (state_in table page) None)
-  → ((page : ℕ) → state_in rest page ≡ cond (in_range pages.first pages.count page) None (state_in table page))
-  → Accepts hosts old new calls
-  → ((page : ℕ) → state_in next page ≡ cond (in_range new.ticket.pages.first new.ticket.pages.count page) (state_in new.runs page) (state_in rest page))
-  → new_bits.unit ≡ bits.unit → new_bits.base ≡ bits.base → ClearedBy bits new_bits (pending_of new) run.first run.count
-  → cleared ≡ count_such (λ unit. not (any_such (pending_of new) (unit_first_of bits unit) (unit_pages_of bits))) run.first run.count
-  → WorkedOn hosts table next bits new_bits run calls cleared
+    → ((page : ℕ) → state_in old.runs page ≡ cond (in_range pages.first pages.count page) (state_in table page) None)
+    → ((page : ℕ) → state_in rest page ≡ cond (in_range pages.first pages.count page) None (state_in table page))
+    → Accepts hosts old new calls
+    → ((page : ℕ) → state_in next page ≡ cond (in_range new.ticket.pages.first new.ticket.pages.count page) (state_in new.runs page) (state_in rest page))
+    → new_bits.unit ≡ bits.unit → new_bits.base ≡ bits.base → ClearedBy bits new_bits (pending_of new) run.first run.count
+    → cleared ≡ count_such (λ unit. not (any_such (pending_of new) (unit_first_of bits unit) (unit_pages_of bits))) run.first run.count
+    → WorkedOn hosts table next bits new_bits run calls cleared
 worked-on hosts table rest next old new pages bits new_bits run calls cleared first count same taken left accepts back unit base clears counted =
     let inside : (page : ℕ) → in_range pages.first pages.count page ≡ in_range (unit_first_of bits run.first) (run.count * unit_pages_of bits) page = λ page. ap (λ f. in_range f pages.count page) first ∙ ap (λ n. in_range (unit_first_of bits run.first) n page) count in
     let ticket : new.ticket.pages ≡ pages = ap (λ t. t.pages) accepts.ticket ∙ same in

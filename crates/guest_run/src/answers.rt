@@ -30,7 +30,11 @@ pub(crate) fn reply_of_claim(run: Option<Units>) -> Option<Reply>
 }
 
 /// The reply of a report: it ends its acceptance where it stopped or no run is left.
-pub(crate) fn reply_of_report(stopped: Option<Page>, next: Option<Units>, cleared: u64) -> Option<Reply>
+pub(crate) fn reply_of_report(
+    stopped: Option<Page>,
+    next: Option<Units>,
+    cleared: u64,
+) -> Option<Reply>
     ensures { result ≡ report_reply stopped next cleared }
 {
     match (stopped, next) {

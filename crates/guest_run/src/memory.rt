@@ -130,9 +130,18 @@ fn clear_accepted(bits: &mut Bitmap, span: &Span, run: Units) -> u64
 {
     let mut cleared = 0;
     for unit in run.first..run.first + run.count {
-        let pages = pages_of(bits, Units { first: unit, count: 1 });
+        let pages = pages_of(
+            bits,
+            Units {
+                first: unit,
+                count: 1,
+            },
+        );
         if !has_pending(span, pages.first, pages.count) {
-            bits.clear(Units { first: unit, count: 1 });
+            bits.clear(Units {
+                first: unit,
+                count: 1,
+            });
             cleared += 1;
         }
     }

@@ -9,7 +9,9 @@ ghost use Rattle.guest_run.specs.RangedCommand.{as_command};
 ghost use Rattle.event_core.specs.Refusals.{memory_range_refusal, refusal_of};
 
 use crate::answers::{range_refusal, reply_of_claim, reply_of_report};
-use crate::memory::{Memory, accept_units, both_of, first_run_of, guarded_units_of, has_unaccepted, run_from};
+use crate::memory::{
+    Memory, accept_units, both_of, first_run_of, guarded_units_of, has_unaccepted, run_from,
+};
 use event_core::{Boot, Command, Entries, Entry, Event, Place, Reply, Script};
 use guest_base::{CpuNo, Units};
 use page_module::Port;
@@ -35,8 +37,10 @@ impl Processor {
         event: Event,
         reply: Option<Reply>,
     ) -> Result<(), AllocError>
-        ensures { OnOk result (self.new ≡ record self.old { entries = self.old.entries
-            ++ record { stamp = length self.old.entries + 1; cpu = record { 0 = 0 }; cmd = number; place = place; event = event; reply = reply } ∷ [] }) }
+        ensures { OnOk result (self.new ≡ record self.old {
+          entries = self.old.entries
+              ++ record { stamp = length self.old.entries + 1; cpu = record { 0 = 0 }; cmd = number; place = place; event = event; reply = reply } ∷ [];
+        }) }
     {
         let stamp = u128::from(self.entries.len()) + 1;
         self.entries.try_push(Entry {
@@ -71,7 +75,11 @@ impl Processor {
         let worked = accept_units(alloc, &self.boot, &mut self.memory, port, run)?;
         *cleared += worked.cleared;
         let next = match worked.stopped {
-            None => run_from(&self.memory.bits, run.first + run.count, units.first + units.count),
+            None => run_from(
+                &self.memory.bits,
+                run.first + run.count,
+                units.first + units.count,
+            ),
             Some(_) => None,
         };
         let reply = reply_of_report(worked.stopped, next, *cleared);

@@ -1,2 +1,8 @@
 pub mod Number
 pub mod First
+pub mod Words
+pub mod Arguments
+pub mod Answers
+pub mod Verbs
+pub mod Commands
+pub mod Script

@@ -2,8 +2,11 @@
 
 ghost use Rattle.std.specs.Prelude.{◌≡◌};
 ghost use Rattle.guest_script.specs.declared.fault.FirstScriptFault.TheVariants.{NoMemory};
+ghost use Rattle.guest_script.specs.declared.fault.LineFault.TheVariants.{Why as LineWhy, NoMemory as LineNoMemory};
+ghost use Rattle.guest_script.specs.declared.fault.ScriptFault.TheVariants.{NoMemory as ScriptNoMemory};
 
 use std::alloc::{AllocError, AllocFailed};
+use thiserror::Error;
 
 /// Why a script isn't one of accept and query lines.
 #[derive(Clone, Copy, Debug, PartialEq, Eq)]
@@ -14,11 +17,53 @@ pub enum FirstScriptFault {
     NoMemory,
 }
 
-impl From<AllocError> for FirstScriptFault {
-    ghost from_gives = { λ _ e. e ≡ NoMemory };
+/// What is wrong with a line of a script.
+#[derive(Clone, Copy, Debug, PartialEq, Eq)]
+pub enum Why {
+    /// A word is no command, no name, no direction or not `skip`.
+    Word,
+    /// A word is no number, or one that is out of its range.
+    Number,
+    /// A word isn't 2 to 524,288 hexadecimal digits, an even number of them.
+    Hex,
+    /// The command has another number of words.
+    Arity,
+    /// The line has more than 1,048,576 bytes, its line feed not counted.
+    TooLong,
+    /// The line isn't UTF-8.
+    NotUtf8,
+}
 
-    fn from(_e: AllocError) -> FirstScriptFault {
-        FirstScriptFault::NoMemory
+/// Why a line isn't read.
+#[derive(Clone, Copy, Debug, PartialEq, Eq)]
+pub(crate) enum LineFault {
+    Why(Why),
+    /// Want of memory.
+    NoMemory,
+}
+
+/// Why a script isn't read: the first fault in the order of its lines.
+#[derive(Clone, Copy, Debug, PartialEq, Eq, Drop, Error)]
+pub enum ScriptFault {
+    /// A line, counted from 1, skipped ones too.
+    #[error("line {0}: {1:?}")]
+    Line(u64, Why),
+    /// There is a 2,049th command.
+    #[error("too many lines")]
+    TooManyLines,
+    /// The commands name more than 4,194,304 bytes.
+    #[error("too many bytes")]
+    TooManyBytes,
+    /// Want of memory.
+    #[error("out of memory")]
+    NoMemory,
+}
+
+impl From<Why> for LineFault {
+    ghost from_gives = { λ why e. e ≡ LineWhy why };
+
+    fn from(why: Why) -> LineFault {
+        LineFault::Why(why)
     }
 }
 
@@ -27,5 +72,21 @@ impl<T: Drop> From<AllocFailed<T>> for FirstScriptFault {
 
     fn from(_e: AllocFailed<T>) -> FirstScriptFault {
         FirstScriptFault::NoMemory
+    }
+}
+
+impl From<AllocError> for LineFault {
+    ghost from_gives = { λ _ e. e ≡ LineNoMemory };
+
+    fn from(_e: AllocError) -> LineFault {
+        LineFault::NoMemory
+    }
+}
+
+impl<T: Drop> From<AllocFailed<T>> for ScriptFault {
+    ghost from_gives = { λ _ e. e ≡ ScriptNoMemory };
+
+    fn from(_e: AllocFailed<T>) -> ScriptFault {
+        ScriptFault::NoMemory
     }
 }

@@ -1,16 +1,26 @@
 //! The texts of a guest's commands: scripts that are read, and replies that are printed.
 #![tactic(auto)]
 
+mod arguments;
+mod command;
 mod fault;
 mod first;
+mod hex_digits;
 mod lines;
+mod name;
 mod number;
 mod reply;
+mod script;
+mod verb;
+mod words;
 
-pub use fault::FirstScriptFault;
+pub use fault::{FirstScriptFault, ScriptFault, Why};
 pub use first::read_first;
+pub use hex_digits::read_hex;
+pub use name::read_name;
 pub use number::read_number;
 pub use reply::print_reply;
+pub use script::read_script;
 
 #[cfg(test)]
 mod tests;

@@ -1,6 +1,6 @@
 use super::*;
 use event_core::{Command, Found, Reply};
-use guest_base::Items;
+use guest_base::{Direction, Items};
 use std::test::Fail;
 
 #[test]
@@ -64,5 +64,79 @@ fn replies(rt: HostRuntime) -> Result<(), Fail> {
         print_reply(alloc, &loaded)?.as_slice(),
         b"ok 00ff absent".as_slice()
     );
+    Ok(())
+}
+
+#[test]
+fn a_script(rt: HostRuntime) -> Result<(), Fail> {
+    let text =
+        b"# a block and its mapping\n\nalloc a 0\n write\ta 0x10 0aFF \nmap m a 0 1 to\nmap n a 0xfff 1 both 4095\nunmap m skip\nhostwrite 2148 ee";
+    let script = read_script(rt.alloc(), text)?;
+    let [alloc, write, map, masked, unmap, host_write] = script.as_slice() else {
+        return Err(Fail::from("six commands"));
+    };
+    assert!(rt; matches!(alloc, Command::Alloc { order: 0, .. }));
+    assert!(rt;
+        matches!(write, Command::Write { off: 16, hex, .. } if hex.as_slice() == [10, 255].as_slice())
+    );
+    assert!(rt;
+        matches!(
+            map,
+            Command::Map {
+                off: 0,
+                len: 1,
+                direction: Direction::ToDevice,
+                mask: 0,
+                ..
+            }
+        )
+    );
+    assert!(rt;
+        matches!(
+            masked,
+            Command::Map {
+                off: 4095,
+                direction: Direction::Both,
+                mask: 4095,
+                ..
+            }
+        )
+    );
+    assert!(rt; matches!(unmap, Command::Unmap { skip: true, .. }));
+    assert!(rt; matches!(host_write, Command::HostWrite { off: 2148, hex } if hex.len() == 1));
+    Ok(())
+}
+
+#[test]
+fn first_faults(rt: HostRuntime) {
+    for (text, fault) in [
+        (b"#\nalloc a\n".as_slice(), ScriptFault::Line(2, Why::Arity)),
+        (b"aloc a".as_slice(), ScriptFault::Line(1, Why::Word)),
+        (b"alloc a-b 11".as_slice(), ScriptFault::Line(1, Why::Word)),
+        (b"alloc a 11".as_slice(), ScriptFault::Line(1, Why::Number)),
+        (
+            b"alloc a 0\r\n".as_slice(),
+            ScriptFault::Line(1, Why::Number),
+        ),
+        (b"write a 0 abc".as_slice(), ScriptFault::Line(1, Why::Hex)),
+        (b"# \xff".as_slice(), ScriptFault::Line(1, Why::NotUtf8)),
+        (
+            b"read a 0 4194304\nread a 0 1".as_slice(),
+            ScriptFault::TooManyBytes,
+        ),
+    ] {
+        assert_eq!(rt; read_script(rt.alloc(), text).err(), Some(fault));
+    }
+}
+
+#[test]
+fn bytes_and_numbers(rt: HostRuntime) -> Result<(), Fail> {
+    let bytes = read_hex(rt.alloc(), b"00fF")?.ok_or("four digits")?;
+    assert_eq!(rt; bytes.as_slice(), [0, 255].as_slice());
+    assert!(rt; read_hex(rt.alloc(), b"")?.is_none());
+    assert_eq!(rt; read_number(b"18446744073709551615"), Some(u64::MAX));
+    assert_eq!(rt; read_number(b"18446744073709551616"), None);
+    assert_eq!(rt; read_number(b"0x0F"), Some(15));
+    assert!(rt; read_name(b"a_1").is_some());
     Ok(())
 }

@@ -1,5 +1,5 @@
 -- Lemmas on what a span gets of runs.
-use Rattle.std.proofs.Common.{◌≡◌, ◌≢◌, ℕ, zero, suc, ◌+◌, ◌-◌, ◌^◌, ◌<◌, ◌≤◌, ◌⊎◌, List, [], ◌∷◌, ◌++◌, Option, None, Some, Bool, true, false, not, length, max, min, nat_lt, ◌==◌, ◌||◌, if◌then◌else◌, arith, refl, sym, ap, ◌∙◌, inl, inr, length-append}
+use Rattle.std.proofs.Common.{◌≡◌, ◌≢◌, ℕ, zero, suc, ◌+◌, ◌-◌, ◌<◌, ◌≤◌, ◌⊎◌, List, [], ◌∷◌, ◌++◌, Option, None, Some, Bool, true, false, length, max, min, ◌==◌, if◌then◌else◌, arith, refl, sym, ap, ◌∙◌, inl, inr}
 use Rattle.std.specs.Option.{option_or}
 use Rattle.std.specs.List.{flat_map}
 use Rattle.std.proofs.lemmas.Bool.{cases_lt, cases_Bool, lt-ltb, le-ltb}
@@ -9,13 +9,13 @@ use Rattle.guest_base.specs.Search.{count_such}
 use Rattle.guest_base.specs.declared.memory.Pages.{Pages}
 use Rattle.guest_base.specs.declared.memory.PageRun.{PageRun}
 use Rattle.guest_base.specs.declared.memory.PageState.{PageState}
-use Rattle.guest_base.specs.declared.memory.PageState.TheVariants.{Pending, Accepted, Shared}
+use Rattle.guest_base.specs.declared.memory.PageState.TheVariants.{Accepted}
 use Rattle.page_module.specs.States.{state_in}
 use Rattle.page_module.specs.Spans.{runs_now, RunsFrom}
 use Rattle.page_module.specs.Tables.{Rising, Differing, begins_run, run_count, same_or_none, same_state}
-use Rattle.page_module.specs.Building.{common, run_end, RunEnds}
+use Rattle.page_module.specs.Building.{common, run_end}
 use Rattle.page_module.specs.declared.span.TakenRun.{TakenRun}
-use Rattle.page_module.proofs.Tests.{in_range-within, in_range-below, in_range-past, Where, where_is, below, within, past}
+use Rattle.page_module.proofs.Tests.{in_range-within, in_range-below, in_range-past, where_is, below, within, past}
 use Rattle.page_module.proofs.JoinLemmas.{state_in-append, same_state-true}
 use Rattle.page_module.proofs.CutLemmas.{rising-below}
 
@@ -266,3 +266,16 @@ copies-length pages meant at from (x ∷ xs) h d a b c here same f =
       | within u v ↦ absurd (omega arith)
       | past u ↦ u
     ]
+
+count-few : (test : ℕ → Bool) (from count : ℕ) → count_such test from count ≤ count
+unfolding count_such
+count-few test from zero = omega arith
+count-few test from (suc count) =
+    let h = count-few test (from + 1) count in
+    elim (test from) as (λ b.
+    (elim b as (λ _. ℕ) [ true ↦ 1 + count_such test (from + 1) count | false ↦ count_such test (from + 1) count ]) ≤ suc count)
+    [ true ↦ omega arith | false ↦ omega arith ]
+
+-- what callers may use: pages have at most a run of one state each
+pub run_count-few : (meant : ℕ → Option PageState) (pages : Pages) → run_count meant pages ≤ pages.count
+run_count-few meant pages = count-few (begins_run meant pages.first) pages.first pages.count

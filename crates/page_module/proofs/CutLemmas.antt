@@ -1,9 +1,8 @@
 -- Lemmas on runs of which some pages are cut out.
-use Rattle.std.proofs.Common.{◌≡◌, ◌≢◌, ℕ, ◌+◌, ◌-◌, ◌^◌, ◌<◌, ◌≤◌, List, [], ◌∷◌, ◌++◌, Option, None, Some, Bool, true, false, length, max, min, nat_lt, if◌then◌else◌, arith, refl, sym, ap, ◌∙◌, inl, inr, length-append}
+use Rattle.std.proofs.Common.{◌≡◌, ℕ, ◌+◌, ◌-◌, ◌^◌, ◌<◌, ◌≤◌, List, [], ◌∷◌, ◌++◌, Option, None, Some, true, false, length, max, min, if◌then◌else◌, arith, refl, sym, ap, ◌∙◌, inl, inr, length-append}
 use Rattle.std.specs.Option.{option_or}
 use Rattle.std.specs.List.{flat_map}
-use Rattle.std.proofs.lemmas.Bool.{cases_lt, cases_Bool, lt-ltb, le-ltb}
-use Rattle.std.proofs.lemmas.Grind.{common_steps}
+use Rattle.std.proofs.lemmas.Bool.{cases_lt, lt-ltb, le-ltb}
 use Rattle.guest_base.specs.Ranges.{in_range}
 use Rattle.guest_base.specs.declared.memory.Pages.{Pages}
 use Rattle.guest_base.specs.declared.memory.PageRun.{PageRun}
@@ -11,7 +10,7 @@ use Rattle.guest_base.specs.declared.memory.PageState.{PageState}
 use Rattle.page_module.specs.States.{state_in}
 use Rattle.page_module.specs.Tables.{Rising}
 use Rattle.page_module.specs.Building.{part, cut, run_end, RunEnds}
-use Rattle.page_module.proofs.Tests.{in_range-within, in_range-below, in_range-past, Where, where_is, below, within, past}
+use Rattle.page_module.proofs.Tests.{in_range-within, in_range-below, in_range-past, where_is, below, within, past}
 use Rattle.page_module.proofs.JoinLemmas.{state_in-append, end_after}
 
 -- runs that rise

@@ -1,7 +1,7 @@
 -- Lemmas on runs that are written anew, one after another.
-use Rattle.std.proofs.Common.{◌≡◌, ◌≢◌, ℕ, ◌+◌, ◌-◌, ◌^◌, ◌<◌, ◌≤◌, List, [], ◌∷◌, ◌++◌, Option, None, Some, Bool, true, false, fold, length, ◌==◌, ◌&&◌, if◌then◌else◌, arith, refl, sym, ap, ◌∙◌, inl, inr, append_assoc}
+use Rattle.std.proofs.Common.{◌≡◌, ◌≢◌, ℕ, ◌+◌, ◌<◌, ◌≤◌, List, [], ◌∷◌, ◌++◌, Option, Some, true, false, fold, ◌==◌, if◌then◌else◌, arith, refl, sym, ap, ◌∙◌, inl, inr, append_assoc}
 use Rattle.std.specs.Option.{option_or}
-use Rattle.std.proofs.lemmas.Bool.{cases_lt, cases_Bool}
+use Rattle.std.proofs.lemmas.Bool.{cases_Bool}
 use Rattle.std.proofs.lemmas.Bool.Decides.{nat_tests}
 use Rattle.std.proofs.lemmas.Grind.{common_steps}
 use Rattle.guest_base.specs.Ranges.{in_range}
@@ -11,7 +11,7 @@ use Rattle.guest_base.specs.declared.memory.PageState.TheVariants.{Pending, Acce
 use Rattle.page_module.specs.States.{state_in}
 use Rattle.page_module.specs.Tables.{same_state, Rising, Differing}
 use Rattle.page_module.specs.Building.{continues, grown, both, joined, run_end, RunEnds}
-use Rattle.page_module.proofs.Tests.{in_range-within, in_range-below, in_range-past, Where, where_is, below, within, past}
+use Rattle.page_module.proofs.Tests.{in_range-within, in_range-below, in_range-past, where_is, below, within, past}
 
 pub joined-snoc : (xs : List PageRun) (x r : PageRun) → joined (xs ++ x ∷ []) r ≡ xs ++ both x r
 joined-snoc [] x r = refl

@@ -1,8 +1,8 @@
 -- Lemmas on the tickets of the spans that are out.
-use Rattle.std.proofs.Common.{◌≡◌, ◌≢◌, ℕ, zero, suc, ◌+◌, ◌*◌, ◌<◌, ◌≤◌, List, [], ◌∷◌, ◌++◌, Option, None, Some, Bool, true, false, ◌&&◌, ◌||◌, ◌==◌, All, length, sum_by, take, drop, get_or, if◌then◌else◌, arith, refl, sym, ap, ◌∙◌, inl, inr, subst}
-use Rattle.std.proofs.lemmas.Bool.{cases_lt, cases_Bool}
+use Rattle.std.proofs.Common.{◌≡◌, ◌≢◌, ℕ, ◌+◌, List, [], ◌∷◌, ◌++◌, Option, None, Bool, true, false, ◌&&◌, ◌||◌, ◌==◌, All, length, sum_by, if◌then◌else◌, arith, refl, sym, ap, ◌∙◌, inl, inr}
+use Rattle.std.proofs.lemmas.Bool.{cases_Bool}
 use Rattle.std.proofs.lemmas.Bool.Decides.{nat_tests}
-use Rattle.std.proofs.lemmas.List.Elements.{All-nil, All-cons, All-head, All-tail, All-push, All-weaker}
+use Rattle.std.proofs.lemmas.List.Elements.{All-nil, All-cons, All-head, All-tail, All-push}
 use Rattle.std.proofs.lemmas.List.Sums.{sum_by-cons}
 use Rattle.guest_base.specs.Ranges.{in_range}
 use Rattle.guest_base.specs.declared.memory.Pages.{Pages}
@@ -135,3 +135,31 @@ all-out-less old new (x ∷ out) ticket h o rest =
 
 pub without-found : (out : List Ticket) (ticket x : Ticket) → same_ticket x ticket ≡ true → without ticket (x ∷ out) ≡ out
 without-found out ticket x t = rw t refl
+
+-- What callers may use: a ticket that is among those of the spans that are out.
+
+pub is_out-last : (out : List Ticket) (ticket : Ticket) → is_out (out ++ ticket ∷ []) ticket ≡ true
+is_out-last [] ticket = rw (same_ticket-refl ticket) refl
+is_out-last (x ∷ out) ticket = rw (is_out-last out ticket) (or-true (same_ticket x ticket))
+  where
+    or-true : (b : Bool) → (b || true) ≡ true
+    or-true true = refl
+    or-true false = refl
+
+pub is_out-more : (out : List Ticket) (ticket other : Ticket) → is_out out other ≡ true → is_out (out ++ ticket ∷ []) other ≡ true
+is_out-more [] ticket other o = cc
+is_out-more (x ∷ out) ticket other o =
+    elim (cases_Bool (same_ticket x other)) [ inl t ↦ rw t refl | inr f ↦ rw f (is_out-more out ticket other (rw f at o)) ]
+
+pub is_out-less : (out : List Ticket) (ticket other : Ticket) → is_out out other ≡ true → other ≢ ticket → is_out (without ticket out) other ≡ true
+is_out-less [] ticket other o n = cc
+is_out-less (x ∷ out) ticket other o n =
+    elim (cases_Bool (same_ticket x ticket)) [
+      | inl t ↦ rw t
+          (elim (cases_Bool (same_ticket x other)) [
+            | inl s ↦ absurd (n (sym (same_ticket-true x other s) ∙ same_ticket-true x ticket t))
+            | inr f ↦ rw f at o
+          ])
+      | inr f ↦ rw f
+          (elim (cases_Bool (same_ticket x other)) [ inl s ↦ rw s refl | inr g ↦ rw g (is_out-less out ticket other (rw g at o) n) ])
+    ]

@@ -1,18 +1,18 @@
 -- Lemmas on runs into which a span's runs are put.
-use Rattle.std.proofs.Common.{◌≡◌, ◌≢◌, ℕ, ◌+◌, ◌-◌, ◌*◌, ◌^◌, ◌<◌, ◌≤◌, List, [], ◌∷◌, ◌++◌, Option, None, Some, Bool, true, false, not, filter, length, min, max, if◌then◌else◌, arith, refl, sym, ap, ◌∙◌, inl, inr, length-append, append-nil}
+use Rattle.std.proofs.Common.{◌≡◌, ℕ, ◌+◌, ◌-◌, ◌*◌, ◌^◌, ◌<◌, ◌≤◌, List, [], ◌∷◌, ◌++◌, Option, None, Some, true, false, not, filter, length, if◌then◌else◌, arith, refl, sym, ap, ◌∙◌, inl, inr, length-append, append-nil}
 use Rattle.std.specs.Option.{option_or}
 use Rattle.std.specs.List.{flat_map}
 use Rattle.std.proofs.lemmas.Bool.{cases_lt, cases_Bool, lt-ltb, le-ltb}
 use Rattle.guest_base.specs.Ranges.{in_range}
 use Rattle.guest_base.specs.declared.memory.PageRun.{PageRun}
 use Rattle.guest_base.specs.declared.memory.PageState.{PageState}
-use Rattle.guest_base.specs.declared.memory.PageState.TheVariants.{Pending, Accepted, Shared}
+use Rattle.guest_base.specs.declared.memory.PageState.TheVariants.{Accepted}
 use Rattle.page_module.specs.States.{state_in}
 use Rattle.page_module.specs.Spans.{runs_now, RunsFrom}
 use Rattle.page_module.specs.Tables.{Rising}
 use Rattle.page_module.specs.Building.{part, parts, begins_before, run_end, RunEnds}
 use Rattle.page_module.specs.declared.span.TakenRun.{TakenRun}
-use Rattle.page_module.proofs.Tests.{in_range-within, in_range-below, in_range-past, Where, where_is, below, within, past}
+use Rattle.page_module.proofs.Tests.{in_range-within, in_range-below, in_range-past, where_is, below, within, past}
 use Rattle.page_module.proofs.SpanLemmas.{runs-end}
 use Rattle.page_module.proofs.JoinLemmas.{state_in-append, end_after, rising-end}
 use Rattle.page_module.proofs.CutLemmas.{rising-weaker, rising-append, rising-below, rising-past, end_after-append, part-states, part-rises, PartRises, part-few, part-empty}

@@ -1,10 +1,9 @@
 -- What putting a span back rests on.
-use Rattle.std.proofs.Common.{◌≡◌, ◌≢◌, ℕ, ◌+◌, ◌-◌, ◌*◌, ◌^◌, ◌<◌, ◌≤◌, List, [], ◌∷◌, ◌++◌, Option, None, Some, All, true, false, fold, length, sum_by, if◌then◌else◌, arith, refl, sym, ap, subst, ◌∙◌, inl, inr}
+use Rattle.std.proofs.Common.{◌≡◌, ℕ, ◌+◌, ◌-◌, ◌*◌, ◌^◌, ◌<◌, ◌≤◌, List, [], ◌++◌, Option, None, All, true, false, fold, length, sum_by, if◌then◌else◌, arith, refl, sym, ap, subst, ◌∙◌, inl, inr}
 use Rattle.std.specs.List.{flat_map}
 use Rattle.std.proofs.lemmas.Bool.{cases_lt}
 use Rattle.std.proofs.lemmas.Grind.{fold-append}
 use Rattle.guest_base.specs.Ranges.{in_range}
-use Rattle.guest_base.specs.declared.memory.Pages.{Pages}
 use Rattle.guest_base.specs.declared.memory.PageRun.{PageRun}
 use Rattle.guest_base.specs.declared.memory.PageState.{PageState}
 use Rattle.page_module.specs.States.{state_in}
@@ -13,11 +12,11 @@ use Rattle.page_module.specs.Tables.{Table, Rising, Differing, is_out, without}
 use Rattle.page_module.specs.Building.{parts, joined, places, AllOut, RunEnds}
 use Rattle.page_module.specs.declared.span.TakenRun.{TakenRun}
 use Rattle.page_module.specs.declared.ticket.Ticket.{Ticket}
-use Rattle.page_module.proofs.Tests.{in_range-within, in_range-below, in_range-past, in_range-true}
+use Rattle.page_module.proofs.Tests.{in_range-within}
 use Rattle.page_module.proofs.JoinLemmas.{end_after}
 use Rattle.page_module.proofs.PlaceLemmas.{Before, Behind, placed-states, placed-rising, all-parts-states, all-parts-rising, all-parts-length, split-length, none-taken}
-use Rattle.page_module.proofs.OutLemmas.{out-free, places-without, length-without, all-out-less}
-use Rattle.page_module.proofs.TableLemmas.{Built, built, rising-ends}
+use Rattle.page_module.proofs.OutLemmas.{out-free, places-without, length-without}
+use Rattle.page_module.proofs.TableLemmas.{built, rising-ends}
 use Rattle.page_module.proofs.SpanLemmas.{runs-fit}
 use Rattle.page_module.specs.Marking.{EndsInMemory}
 

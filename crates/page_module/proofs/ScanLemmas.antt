@@ -1,16 +1,14 @@
 -- What the scans for the first page find.
-use Rattle.std.proofs.Common.{◌≡◌, ◌≢◌, ℕ, ◌+◌, ◌-◌, ◌^◌, ◌<◌, ◌≤◌, ◌⊎◌, List, [], ◌∷◌, Option, None, Some, Bool, true, false, not, max, unwrap_or, if◌then◌else◌, arith, refl, sym, ap, ◌∙◌, inl, inr, subst}
+use Rattle.std.proofs.Common.{◌≡◌, ◌≢◌, ℕ, ◌+◌, ◌-◌, ◌<◌, ◌≤◌, List, [], ◌∷◌, Option, None, Some, Bool, true, false, max, unwrap_or, arith, refl, sym, ◌∙◌, inl, inr, subst}
 use Rattle.std.proofs.lemmas.Bool.{cases_lt, cases_Bool, lt-ltb, le-ltb}
-use Rattle.guest_base.specs.Ranges.{in_range}
-use Rattle.guest_base.specs.declared.memory.Pages.{Pages}
 use Rattle.guest_base.specs.declared.memory.PageState.{PageState}
 use Rattle.guest_base.specs.declared.memory.PageState.TheVariants.{Pending, Accepted, Shared}
-use Rattle.page_module.specs.States.{state_in, AllIn}
+use Rattle.page_module.specs.States.{state_in}
 use Rattle.page_module.specs.Spans.{Taken, runs_now, RunsFrom}
-use Rattle.page_module.specs.Marking.{hits, is_pending, first_from, rest_first, first_in, first_in_accepted, first_in_rest, first_page, IsFirstPending, NonePending}
+use Rattle.page_module.specs.Marking.{hits, first_from, rest_first, first_in, first_in_rest, first_page, IsFirstPending, NonePending}
 use Rattle.page_module.specs.declared.span.TakenRun.{TakenRun}
 use Rattle.page_module.specs.declared.ticket.Ticket.{Ticket}
-use Rattle.page_module.proofs.Tests.{in_range-within, in_range-below, in_range-past, in_range-true, Where, where_is, below, within, past}
+use Rattle.page_module.proofs.Tests.{in_range-within, in_range-true, where_is, below, within, past}
 use Rattle.page_module.proofs.SpanLemmas.{runs-end, state-below, state-past, state-some, state_here, state-head, state-tail, state-first, state-rest}
 
 -- the first number of a range at or after a number

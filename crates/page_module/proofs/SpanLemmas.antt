@@ -1,5 +1,5 @@
 -- Lemmas on the states of a span's pages.
-use Rattle.std.proofs.Common.{◌≡◌, ◌≢◌, ℕ, zero, suc, ◌+◌, ◌-◌, ◌^◌, ◌<◌, ◌≤◌, List, [], ◌∷◌, Option, None, Some, All, true, false, if◌then◌else◌, map, min, arith, refl, sym, ap, ◌∙◌, inl, inr, Bool, length, get_or, drop, add-one, drop-cons, subst, ◌==◌, ◌&&◌, ◌⊎◌}
+use Rattle.std.proofs.Common.{◌≡◌, ◌≢◌, ℕ, suc, ◌+◌, ◌-◌, ◌^◌, ◌<◌, ◌≤◌, List, [], ◌∷◌, None, Some, All, true, false, if◌then◌else◌, map, min, arith, refl, sym, ap, ◌∙◌, inl, inr, Bool, length, get_or, drop, add-one, drop-cons, subst, ◌==◌, ◌&&◌, ◌⊎◌}
 use Rattle.std.proofs.lemmas.Bool.Decides.{nat_tests}
 use Rattle.std.proofs.lemmas.Bool.{cases_lt, cases_Bool}
 use Rattle.std.proofs.lemmas.Grind.{common_steps}
@@ -7,13 +7,13 @@ use Rattle.std.proofs.lemmas.List.Elements.{All-nil, All-cons}
 use Rattle.guest_base.specs.Ranges.{in_range}
 use Rattle.guest_base.specs.declared.memory.Pages.{Pages}
 use Rattle.guest_base.specs.declared.memory.PageState.{PageState}
-use Rattle.guest_base.specs.declared.memory.PageState.TheVariants.{Pending, Accepted, Shared}
+use Rattle.guest_base.specs.declared.memory.PageState.TheVariants.{Pending, Accepted}
 use Rattle.page_module.specs.States.{state_in, AllIn}
 use Rattle.page_module.specs.Spans.{Taken, runs_now, RunsFrom, BeginsPending, Becomes}
 use Rattle.page_module.specs.declared.ticket.Ticket.{Ticket}
 use Rattle.page_module.specs.Marking.{EndsInMemory, all_in_state, accepted_in, rest_first}
 use Rattle.page_module.specs.declared.span.TakenRun.{TakenRun}
-use Rattle.page_module.proofs.Tests.{in_range-within, in_range-below, in_range-past, in_range-true, Where, where_is, below, within, past}
+use Rattle.page_module.proofs.Tests.{in_range-within, in_range-below, in_range-past, in_range-true, where_is, below, within, past}
 
 pub runs-end : (first end : ℕ) (rs : List TakenRun) → RunsFrom first end rs → first ≤ end
 runs-end first end [] h = omega (arith, h)

@@ -1,4 +1,4 @@
-use Rattle.std.proofs.Common.{◌≡◌, ◌≢◌, ℕ, ◌+◌, ◌<◌, ◌≤◌, List, None, true, arith, sym, ap, ◌∙◌, inl, inr}
+use Rattle.std.proofs.Common.{◌≡◌, ◌≢◌, ℕ, ◌+◌, List, None, true, arith, sym, ap, ◌∙◌, inl, inr}
 use Rattle.std.proofs.lemmas.Bool.{cases_lt}
 use Rattle.guest_base.specs.Ranges.{in_range}
 use Rattle.page_module.specs.States.{state_in}
@@ -18,7 +18,7 @@ span-within ticket rs span view from page some =
     elim (cases_lt page first) [
       | inl below ↦ absurd (some (sym runs ∙ state-below first end page rs from below))
       | inr low ↦ elim (cases_lt page end) [
-          | inl high ↦ grind arith
-          | inr past ↦ absurd (some (sym runs ∙ state-past first end page rs from past))
-        ]
+        | inl high ↦ grind arith
+        | inr past ↦ absurd (some (sym runs ∙ state-past first end page rs from past))
+      ]
     ]

@@ -1,7 +1,6 @@
 -- What a page table's calls rest on.
-use Rattle.std.proofs.Common.{◌≡◌, ◌≢◌, ℕ, ◌+◌, ◌-◌, ◌*◌, ◌^◌, ◌<◌, ◌≤◌, List, [], ◌∷◌, ◌++◌, Option, None, Some, All, true, false, fold, length, max, if◌then◌else◌, arith, refl, sym, ap, subst, ◌∙◌, inl, inr}
+use Rattle.std.proofs.Common.{◌≡◌, ◌≢◌, ℕ, ◌+◌, ◌-◌, ◌*◌, ◌^◌, ◌<◌, ◌≤◌, List, [], ◌∷◌, ◌++◌, Option, None, All, true, fold, length, if◌then◌else◌, arith, refl, sym, ap, subst, ◌∙◌, inl}
 use Rattle.std.specs.List.{flat_map}
-use Rattle.std.proofs.lemmas.Bool.{cases_lt}
 use Rattle.std.proofs.lemmas.List.Elements.{All-nil, All-cons}
 use Rattle.guest_base.specs.Ranges.{in_range}
 use Rattle.guest_base.specs.declared.memory.Pages.{Pages}
@@ -13,7 +12,7 @@ use Rattle.page_module.specs.declared.span.TakenRun.{TakenRun}
 use Rattle.page_module.specs.Tables.{Table, Rising, Differing, Apart, run_count}
 use Rattle.page_module.specs.declared.ticket.Ticket.{Ticket}
 use Rattle.page_module.specs.Building.{RunEnds, run_end, cut, common, joined, AllOut}
-use Rattle.page_module.proofs.Tests.{in_range-within, in_range-below, in_range-past, in_range-true, Where, where_is, below, within, past}
+use Rattle.page_module.proofs.Tests.{in_range-within, in_range-below, in_range-past, where_is, below, within, past}
 use Rattle.page_module.proofs.CutLemmas.{cuts-length, cuts-rising, cuts-states}
 use Rattle.page_module.proofs.JoinLemmas.{fold-states, fold-rising, fold-differing}
 use Rattle.page_module.proofs.CopyLemmas.{copies-follow, copies-length, copies-states}

@@ -1,12 +1,11 @@
 -- How the runs of a page table are made.
-use Rattle.std.specs.Prelude.{◌≡◌, ℕ, ◌+◌, ◌-◌, ◌*◌, ◌^◌, ◌<◌, ◌≤◌, ◌==◌, ◌&&◌, List, [], ◌∷◌, ◌++◌, Bool, true, None, All, max, min, nat_lt, nat_le, not, filter, fold, length, sum_by, if◌then◌else◌}
-use Rattle.std.specs.List.{flat_map}
+use Rattle.std.specs.Prelude.{◌≡◌, ℕ, ◌+◌, ◌-◌, ◌*◌, ◌^◌, ◌≤◌, ◌==◌, ◌&&◌, List, [], ◌∷◌, ◌++◌, Bool, true, None, All, max, min, nat_lt, if◌then◌else◌}
 use Rattle.guest_base.specs.Ranges.{in_range}
 use Rattle.guest_base.specs.declared.memory.Pages.{Pages}
 use Rattle.guest_base.specs.declared.memory.PageRun.{PageRun}
 use Rattle.guest_base.specs.declared.memory.PageState.TheVariants.{Accepted}
 use Rattle.page_module.specs.States.{state_in}
-use Rattle.page_module.specs.Tables.{same_state, Rising, Differing, Apart}
+use Rattle.page_module.specs.Tables.{same_state, Apart}
 use Rattle.page_module.specs.declared.span.TakenRun.{TakenRun}
 use Rattle.page_module.specs.declared.ticket.Ticket.{Ticket}
 

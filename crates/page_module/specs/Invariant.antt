@@ -1,5 +1,5 @@
 -- What always holds of a page table's parts.
-use Rattle.std.specs.Prelude.{◌≡◌, ℕ, ◌+◌, ◌<◌, ◌≤◌, List, [], length, sum_by, Vec, vec_capacity}
+use Rattle.std.specs.Prelude.{◌≡◌, ℕ, ◌+◌, ◌<◌, ◌≤◌, [], length, sum_by, Vec, vec_capacity}
 use Rattle.std.specs.declared.alloc.Global.{Global}
 use Rattle.guest_base.specs.declared.memory.PageRun.{PageRun}
 use Rattle.page_module.specs.Tables.{Rising, Differing}

@@ -1,8 +1,7 @@
 -- What becomes of the runs of a span.
-use Rattle.std.specs.Prelude.{◌≡◌, ◌≢◌, ℕ, ◌+◌, ◌-◌, ◌^◌, ◌≤◌, ◌<◌, List, [], ◌∷◌, Option, None, Some, min, max, nat_lt, not, Bool, true, false, if◌then◌else◌}
+use Rattle.std.specs.Prelude.{◌≢◌, ℕ, ◌+◌, ◌-◌, ◌^◌, ◌≤◌, ◌<◌, List, [], ◌∷◌, Option, None, Some, min, max, nat_lt, not, Bool, true, false, if◌then◌else◌}
 use Rattle.guest_base.specs.Ranges.{in_range}
 use Rattle.guest_base.specs.declared.memory.Pages.{Pages}
-use Rattle.guest_base.specs.declared.memory.PageRun.{PageRun}
 use Rattle.guest_base.specs.declared.memory.PageState.{PageState}
 use Rattle.guest_base.specs.declared.memory.PageState.TheVariants.{Pending, Accepted, Shared}
 use Rattle.page_module.specs.States.{state_in, AllIn}

@@ -4,11 +4,10 @@ use Rattle.guest_base.specs.Levels.{level_pages}
 use Rattle.guest_base.specs.declared.memory.Level.{Level}
 use Rattle.guest_base.specs.declared.memory.Level.TheVariants.{Small}
 use Rattle.guest_base.specs.declared.memory.PageState.{PageState}
-use Rattle.guest_base.specs.declared.memory.PageState.TheVariants.{Pending, Accepted, Shared}
 use Rattle.event_core.specs.Calls.{is_smaller}
 use Rattle.event_core.specs.declared.module_call.ModuleCall.{ModuleCall}
 use Rattle.event_core.specs.declared.module_call.CallKind.{CallKind}
-use Rattle.event_core.specs.declared.module_call.CallKind.TheVariants.{Accept, Share, Unshare}
+use Rattle.event_core.specs.declared.module_call.CallKind.TheVariants.{Accept}
 use Rattle.event_core.specs.declared.module_call.PortAnswer.{PortAnswer}
 use Rattle.event_core.specs.declared.module_call.PortAnswer.TheVariants.{Ok, SizeMismatch, Failed}
 use Rattle.page_module.specs.Spans.{Taken, BeginsPending, Becomes}

@@ -82,7 +82,7 @@ loop-run-preserved-then-eq g c =
         calls-push c.args.log.now.calls c.loop-run.log.calls c.try_call-answer.new.log.calls inv.done.0 call inv.done.1 e.noted,
         calls-push (g.P.Port.made c.args.port.now) (g.P.Port.made c.loop-run.port) (g.P.Port.made c.try_call-answer.new.port) inv.done.0 call inv.done.2 e.made,
         going-done c.args.hosts.now c.args.span.now c.loop-run.span c.try_call-answer.new.span c.loop-run.from c.loop-run.tried inv.done.0 c.in-Some.run'.first c.in-Some.run'.count c.level_to_try-level.result c.try_call-answer.result going found c.in-Some.ensures.some c.level_to_try-level.ensures e.answer done
-          (after-done c.loop-run.span c.try_call-answer.new.span _ _ _ e.after done)
+            (after-done c.loop-run.span c.try_call-answer.new.span _ _ _ e.after done),
       );
       high = left.0;
       room = omega (arith, left.1, e.room, inv.room);
@@ -103,13 +103,12 @@ returns-then-eq-2-clause-calls g c =
     let e = c.try_call-answer.ensures in
     let failed = small-failed c.args.hosts.now c.in-Some.run'.first c.level_to_try-level.result c.try_call-answer.result at_small e.answer undone in
     let stopped = going-stopped c.args.hosts.now c.args.span.now c.loop-run.span c.try_call-answer.new.span c.loop-run.from c.loop-run.tried inv.done.0 c.in-Some.run'.first c.in-Some.run'.count c.level_to_try-level.result c.try_call-answer.result going found c.level_to_try-level.ensures e.answer failed
-      (after-undone c.loop-run.span c.try_call-answer.new.span _ _ _ e.after undone) at_small in
-    (
+    (after-undone c.loop-run.span c.try_call-answer.new.span _ _ _ e.after undone) at_small in (
       inv.done.0 ++ call ∷ [],
       calls-push c.args.log.now.calls c.loop-run.log.calls c.try_call-answer.new.log.calls inv.done.0 call inv.done.1 e.noted,
       calls-push (g.P.Port.made c.args.port.now) (g.P.Port.made c.loop-run.port) (g.P.Port.made c.try_call-answer.new.port) inv.done.0 call inv.done.2 e.made,
       stopped.0,
-      stopped.1
+      stopped.1,
     )
 
 pub loop-run-smaller : goal.loop-run-smaller
@@ -140,7 +139,7 @@ loop-run-preserved g c =
         calls-push c.args.log.now.calls c.loop-run.log.calls c.try_call-answer.new.log.calls inv.done.0 call inv.done.1 e.noted,
         calls-push (g.P.Port.made c.args.port.now) (g.P.Port.made c.loop-run.port) (g.P.Port.made c.try_call-answer.new.port) inv.done.0 call inv.done.2 e.made,
         going-failed c.args.hosts.now c.args.span.now c.loop-run.span c.try_call-answer.new.span c.loop-run.from c.loop-run.tried inv.done.0 c.in-Some.run'.first c.in-Some.run'.count c.level_to_try-level.result c.try_call-answer.result going found c.in-Some.ensures.some c.level_to_try-level.ensures e.answer undone
-          (after-undone c.loop-run.span c.try_call-answer.new.span _ _ _ e.after undone) big
+            (after-undone c.loop-run.span c.try_call-answer.new.span _ _ _ e.after undone) big,
       );
       high = omega (arith, below);
       room = omega (arith, left, e.room, inv.room);

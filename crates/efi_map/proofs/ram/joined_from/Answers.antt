@@ -1,9 +1,9 @@
-use Rattle.std.proofs.Common.{◌≡◌, ◌≢◌, ◌∷◌, ◌++◌, [], ◌+◌, ◌<◌, suc, length, get_or, take, take_all, refl, arith}
+use Rattle.std.proofs.Common.{◌≡◌, ◌≢◌, ◌∷◌, suc, get_or, take, take_all, refl, arith}
 use Rattle.std.proofs.lemmas.Bool.{false≢true}
 use Rattle.guest_base.specs.declared.memory.PageRun.{PageRun}
 use Rattle.guest_base.specs.declared.memory.PageState.TheVariants.{Pending}
 use Rattle.event_core.specs.Runs.{run_end}
-use Rattle.efi_map.proofs.Joining.{Joins, joins_start, joins_grow, joins_push, joins_end, ahead_at, here, seen_more}
+use Rattle.efi_map.proofs.Joining.{joins_start, joins_grow, joins_push, joins_end, ahead_at, here, seen_more}
 use Rattle.efi_map.proofs.ram.joined_from.Goals as goal
 use Rattle.efi_map.proofs.ram.joined_from.Goals.{then-goes_on, else-goes_on+in_ok-try_push}
 

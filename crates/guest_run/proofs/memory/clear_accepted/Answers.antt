@@ -11,7 +11,7 @@ loop-unit-init c = further-start c.args.bits.now (pending_of c.args.span.now) c.
 pub loop-unit-preserved : goal.loop-unit-preserved
 loop-unit-preserved c =
     elim c.if-not-has_pending.branch [
-      then-not-has_pending w ↦
+      | then-not-has_pending w ↦
           (let P : Bits → Type 0 = λ b. ClearsBits c.loop-unit.bits.bits b.bits (record { first = c.loop-unit.unit; count = 1 }) in
           let none : c.has_pending.result ≡ false = search rules in
           further-clear c.args.bits.now c.loop-unit.bits c.if-not-has_pending.bits (pending_of c.args.span.now) c.args.run.first c.loop-unit.unit c.loop-unit.cleared c.if-not-has_pending.cleared c.pages_of-pages.result.first c.pages_of-pages.result.count c.has_pending.result c.loop-unit.invariant c.loop-unit.auto.unit c.pages_of-pages.ensures.first c.pages_of-pages.ensures.count c.has_pending.ensures none (subst P (sym w.bits-is) w.clear.ensures.bits) (ap (λ (b : Bits). b.unit) w.bits-is ∙ w.clear.ensures.unit) (ap (λ (b : Bits). b.base) w.bits-is ∙ w.clear.ensures.base) w.cleared-is)

@@ -25,7 +25,7 @@ returns-clause-worked g c =
     let P : List ModuleCall → Type 0 = λ l. WorkedOn c.args.hosts.now c.args.table.now.runs c.put.new.self.runs c.args.bits.now c.clear_accepted-cleared.new.bits c.args.run l c.clear_accepted-cleared.result in
     subst P calls
     (worked-on c.args.hosts.now c.args.table.now.runs c.take-span.new.self.runs c.put.new.self.runs c.take-span.result c.accept_run-end.new.span c.pages_of-pages.result c.args.bits.now c.clear_accepted-cleared.new.bits c.args.run a.0 c.clear_accepted-cleared.result
-      p.first p.count t.pages
-      (λ page. t.states page ∙ ap (λ (r : List PageRun). cond (in_range c.pages_of-pages.result.first c.pages_of-pages.result.count page) (state_in r page) None) same)
-      (λ page. t.rest page ∙ ap (λ (r : List PageRun). cond (in_range c.pages_of-pages.result.first c.pages_of-pages.result.count page) None (state_in r page)) same)
-      a.3 c.put.ensures.states k.unit k.base k.cleared k.count)
+    p.first p.count t.pages
+    (λ page. t.states page ∙ ap (λ (r : List PageRun). cond (in_range c.pages_of-pages.result.first c.pages_of-pages.result.count page) (state_in r page) None) same)
+    (λ page. t.rest page ∙ ap (λ (r : List PageRun). cond (in_range c.pages_of-pages.result.first c.pages_of-pages.result.count page) None (state_in r page)) same)
+    a.3 c.put.ensures.states k.unit k.base k.cleared k.count)

@@ -1,7 +1,7 @@
-use Rattle.std.proofs.Common.{◌≡◌, List, ap, sym, ◌∙◌}
+use Rattle.std.proofs.Common.{List, ap, sym, ◌∙◌}
 use Rattle.guest_base.specs.declared.memory.PageRun.{PageRun}
 use Rattle.page_module.specs.Building.{joined}
-use Rattle.page_module.proofs.JoinLemmas.{joined-snoc, state_in-append, fold-states, fold-rising, fold-differing}
+use Rattle.page_module.proofs.JoinLemmas.{joined-snoc}
 use Rattle.page_module.proofs.building.join.Goals as goal
 
 pub returns-in-Some-clause-items : goal.returns-in-Some-clause-items

@@ -1,5 +1,4 @@
-use Rattle.std.proofs.Common.{◌≡◌, length, ap, refl}
-use Rattle.std.proofs.lemmas.Bool.{lt-ltb, le-ltb}
+use Rattle.std.proofs.lemmas.Bool.{lt-ltb}
 use Rattle.page_module.proofs.RoomLemmas.{filter-room}
 use Rattle.page_module.proofs.building.join_before.Goals as goal
 

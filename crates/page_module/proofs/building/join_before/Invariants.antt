@@ -1,4 +1,4 @@
-use Rattle.std.proofs.Common.{◌≡◌, ◌+◌, ◌≤◌, fold, filter, not, length, take, vec_len, vec_capacity}
+use Rattle.std.proofs.Common.{◌≡◌, ◌+◌, ◌≤◌, fold, filter, length, take, vec_len, vec_capacity}
 use Rattle.page_module.specs.Building.{joined, begins_before}
 use Rattle.page_module.proofs.building.join_before.Given as goal
 

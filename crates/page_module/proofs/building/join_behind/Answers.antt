@@ -1,5 +1,5 @@
-use Rattle.std.proofs.Common.{◌≡◌, length, ap, refl, not}
-use Rattle.std.proofs.lemmas.Bool.{lt-ltb, le-ltb}
+use Rattle.std.proofs.Common.{ap, not}
+use Rattle.std.proofs.lemmas.Bool.{le-ltb}
 use Rattle.page_module.proofs.RoomLemmas.{filter-room}
 use Rattle.page_module.proofs.building.join_behind.Goals as goal
 

@@ -1,4 +1,3 @@
-use Rattle.std.proofs.Common.{◌≡◌, length, ap}
 use Rattle.page_module.proofs.RoomLemmas.{flat_map-room}
 use Rattle.page_module.proofs.building.join_taken.Goals as goal
 

@@ -1,5 +1,5 @@
-use Rattle.std.proofs.Common.{◌≡◌, ap, ◌∙◌, IsPermutation}
-use Rattle.efi_map.specs.Ram.{ram_of, AreOrdered}
+use Rattle.std.proofs.Common.{◌≡◌, ap, ◌∙◌}
+use Rattle.efi_map.specs.Ram.{ram_of}
 use Rattle.efi_map.proofs.RamOf.{ordered, maximal}
 use Rattle.efi_map.proofs.map.GuestMap.ram.Goals as goal
 

@@ -23,22 +23,22 @@ returns-clause-goes_on g c =
     let stands = claiming.at.stands in
     let next : Option Units = c.match-worked.next in
     let is_next : next ≡ next_by (bits_in memory.bits) c.args.units c.args.run w.stopped =
-        elim c.match-worked.branch [
-          in-None w' ↦ w'.next-is ∙ w'.run_from-next.ensures ∙ sym (ap (next_by (bits_in memory.bits) c.args.units c.args.run) w'.in-None.is)
-          | in-Some w' ↦ w'.next-is ∙ sym (ap (next_by (bits_in memory.bits) c.args.units c.args.run) w'.in-Some.is)
-        ] in
+    elim c.match-worked.branch [
+      | in-None w' ↦ w'.next-is ∙ w'.run_from-next.ensures ∙ sym (ap (next_by (bits_in memory.bits) c.args.units c.args.run) w'.in-None.is)
+      | in-Some w' ↦ w'.next-is ∙ sym (ap (next_by (bits_in memory.bits) c.args.units c.args.run) w'.in-Some.is)
+    ] in
     let more : ℕ = c.args.cleared.now + w.cleared in
     let goes = report-goes p c.args.number c.args.cleared.now more c.args.units c.args.run (g.P.Port.made c.args.port.now) (g.P.Port.made c.accept_units.new.port) w.calls memory w.stopped next claiming
-      (e.accepts calls stands) (e.stands calls stands) e.kept (ap (λ n. c.args.cleared.now + n) (e.cleared calls stands)) (let few = e.few in omega arith) e.stopped is_next e.made in
+    (e.accepts calls stands) (e.stands calls stands) e.kept (ap (λ n. c.args.cleared.now + n) (e.cleared calls stands)) (let few = e.few in omega arith) e.stopped is_next e.made in
     let made : c.add.new.self ≡ with_entry p memory c.args.number (reported c.args.run w.calls w.stopped next more) =
-        c.in_ok-add.ensures
-        ∙ ap (λ (r : Option Reply).
-            let q : Processor = record {
-              boot = p.boot;
-              script = p.script;
-              memory = memory;
-              entries = p.entries ++ (let x : Entry = record { stamp = length p.entries + 1; cpu = record { 0 = 0 }; cmd = c.args.number; place = place.Memory; event = event.Report c.args.run w.calls w.stopped next; reply = r } in x) ∷ [];
-            } in q) c.reply_of_report-reply.ensures in
+    c.in_ok-add.ensures
+    ∙ ap (λ (r : Option Reply).
+    let q : Processor = record {
+      boot = p.boot;
+      script = p.script;
+      memory = memory;
+      entries = p.entries ++ (let x : Entry = record { stamp = length p.entries + 1; cpu = record { 0 = 0 }; cmd = c.args.number; place = place.Memory; event = event.Report c.args.run w.calls w.stopped next; reply = r } in x) ∷ [];
+    } in q) c.reply_of_report-reply.ensures in
     let P : Processor → Type 0 = λ q. EndsOr q c.args.number c.args.units more (g.P.Port.made c.accept_units.new.port) next in
     subst P (sym made) goes
 
@@ -49,6 +49,6 @@ returns-clause-further g c =
     let next : Option Units = c.match-worked.next in
     next-further (bits_in memory.bits) c.args.units c.args.run w.stopped next
     (elim c.match-worked.branch [
-      in-None w' ↦ w'.next-is ∙ w'.run_from-next.ensures ∙ sym (ap (next_by (bits_in memory.bits) c.args.units c.args.run) w'.in-None.is)
+      | in-None w' ↦ w'.next-is ∙ w'.run_from-next.ensures ∙ sym (ap (next_by (bits_in memory.bits) c.args.units c.args.run) w'.in-None.is)
       | in-Some w' ↦ w'.next-is ∙ sym (ap (next_by (bits_in memory.bits) c.args.units c.args.run) w'.in-Some.is)
     ])

@@ -1,8 +1,5 @@
-use Rattle.std.proofs.Common.{◌≡◌, ◌⊎◌, ◌+◌, ◌^◌, ◌<◌, ◌≤◌, zero, suc, arith, inl, inr, sym, ◌∙◌}
-use Rattle.std.proofs.lemmas.Bool.{cases_lt}
-use Rattle.guest_base.specs.declared.memory.PageState.TheVariants.{Accepted}
-use Rattle.page_module.specs.Spans.{BeginsPending}
-use Rattle.page_module.proofs.SpanLemmas.{runs-fit, runs-all, runs-accepted, becomes-all, becomes-accepted, span-end, pages-same, pages-differ, marks-first, length-map}
+use Rattle.std.proofs.Common.{arith, sym, ◌∙◌}
+use Rattle.page_module.proofs.SpanLemmas.{runs-fit, runs-all, runs-accepted, becomes-all, becomes-accepted, span-end, pages-same, marks-first, length-map}
 use Rattle.page_module.proofs.span.Span.mark.Goals as goal
 
 pub invariant_of-self : goal.invariant_of-self

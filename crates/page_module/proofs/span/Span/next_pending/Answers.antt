@@ -1,4 +1,4 @@
-use Rattle.std.proofs.Common.{◌≡◌, arith, sym, ◌∙◌}
+use Rattle.std.proofs.Common.{arith, sym, ◌∙◌}
 use Rattle.page_module.proofs.SpanLemmas.{runs-fit}
 use Rattle.page_module.proofs.ScanLemmas.{none-pending, next-pending}
 use Rattle.page_module.proofs.span.Span.next_pending.Goals as goal

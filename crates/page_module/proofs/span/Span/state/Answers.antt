@@ -1,9 +1,7 @@
-use Rattle.std.proofs.Common.{◌≡◌, ◌+◌, ◌^◌, ◌<◌, All, drop, length, get_or, arith, ap, sym, refl, ◌∙◌}
+use Rattle.std.proofs.Common.{All, arith, sym, refl, ◌∙◌}
 use Rattle.std.proofs.lemmas.List.Elements.{All-get_or}
 use Rattle.page_module.specs.Marking.{EndsInMemory}
-use Rattle.page_module.specs.States.{state_in}
-use Rattle.page_module.specs.Spans.{runs_now}
-use Rattle.page_module.proofs.SpanLemmas.{runs-fit, state-pass, state-found, state-end, taken-some}
+use Rattle.page_module.proofs.SpanLemmas.{runs-fit, state-pass, state-end, taken-some}
 use Rattle.page_module.proofs.span.Span.state.Goals as goal
 
 pub loop-taken-init : goal.loop-taken-init

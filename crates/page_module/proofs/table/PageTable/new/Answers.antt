@@ -1,5 +1,4 @@
-use Rattle.std.proofs.Common.{◌≡◌, ℕ, ◌∙◌, refl, ap, sym, arith}
-use Rattle.page_module.specs.States.{state_in}
+use Rattle.std.proofs.Common.{refl, arith}
 use Rattle.page_module.proofs.TableLemmas.{rising-ends, built}
 use Rattle.page_module.proofs.table.PageTable.new.Goals as goal
 

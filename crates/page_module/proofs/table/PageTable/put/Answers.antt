@@ -1,10 +1,5 @@
-use Rattle.std.proofs.Common.{◌≡◌, ◌+◌, ◌-◌, ◌*◌, ◌<◌, ◌≤◌, ℕ, List, Option, length, if◌then◌else◌, ◌∙◌, refl, ap, sym, arith}
-use Rattle.guest_base.specs.Ranges.{in_range}
+use Rattle.std.proofs.Common.{List, length, ◌∙◌, ap, arith}
 use Rattle.guest_base.specs.declared.memory.PageRun.{PageRun}
-use Rattle.guest_base.specs.declared.memory.PageState.{PageState}
-use Rattle.page_module.specs.States.{state_in}
-use Rattle.page_module.specs.Spans.{Taken}
-use Rattle.page_module.specs.Tables.{Table}
 use Rattle.page_module.specs.declared.ticket.Ticket.{Ticket}
 use Rattle.page_module.proofs.OutLemmas.{all-out-less}
 use Rattle.page_module.proofs.PutLemmas.{put-back, PutBack, put-facts, PutFacts, put-states, put-outside}

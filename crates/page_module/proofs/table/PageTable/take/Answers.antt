@@ -1,18 +1,15 @@
-use Rattle.std.proofs.Common.{◌≡◌, ◌≢◌, ◌+◌, ◌-◌, ◌*◌, ◌<◌, ◌≤◌, ℕ, List, ◌∷◌, [], ◌++◌, None, true, length, sum_by, vec_len, vec_capacity, ◌∙◌, refl, ap, sym, arith, inl, inr}
+use Rattle.std.proofs.Common.{◌≡◌, ◌+◌, ◌-◌, ◌*◌, List, ◌∷◌, [], length, ◌∙◌, ap, arith}
 use Rattle.std.specs.List.{flat_map}
-use Rattle.std.proofs.lemmas.Bool.{cases_lt}
 use Rattle.std.proofs.lemmas.List.Sums.{sum_by-append}
-use Rattle.guest_base.specs.Ranges.{in_range}
 use Rattle.page_module.specs.States.{state_in}
 use Rattle.guest_base.specs.declared.memory.PageRun.{PageRun}
 use Rattle.page_module.specs.Spans.{Taken}
 use Rattle.page_module.specs.Tables.{run_count, Table}
-use Rattle.page_module.specs.Building.{common, cut, places}
+use Rattle.page_module.specs.Building.{common, places}
 use Rattle.page_module.specs.declared.span.TakenRun.{TakenRun}
 use Rattle.page_module.specs.declared.ticket.Ticket.{Ticket}
-use Rattle.page_module.proofs.TableLemmas.{take-facts, TakeFacts, MayTake, cut-out, CutOut, taken-items, take-states, take-rest, take-alone, take-here}
-use Rattle.page_module.proofs.CopyLemmas.{copies-states}
-use Rattle.page_module.proofs.OutLemmas.{all-out-more, out-alone}
+use Rattle.page_module.proofs.TableLemmas.{take-facts, TakeFacts, cut-out, taken-items, take-states, take-rest, take-alone, take-here}
+use Rattle.page_module.proofs.OutLemmas.{all-out-more}
 use Rattle.page_module.proofs.table.PageTable.take.Goals as goal
 
 pub copy_runs-requires-clause-ends : goal.copy_runs-requires-clause-ends

@@ -1,0 +1,6 @@
+pub mod SortedLists
+pub mod Pages
+pub mod Merging
+pub mod Maximal
+pub mod Picking
+pub mod Waiting

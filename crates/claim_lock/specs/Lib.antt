@@ -1,0 +1,5 @@
+pub mod Knows
+pub mod Rule
+pub mod Seen
+pub mod Lent
+pub mod Tallied

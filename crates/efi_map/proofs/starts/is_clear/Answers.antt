@@ -1,0 +1,6 @@
+use Rattle.efi_map.proofs.Index.{clear_at_last}
+use Rattle.efi_map.proofs.starts.is_clear.Goals as goal
+
+pub returns-in-Some : goal.returns-in-Some
+returns-in-Some c =
+    rw c.from.ensures (clear_at_last c.args.starts.now c.in-Some.field-0-0.now c.in-Some.end.now c.args.start c.args.last c.next_back.new.self c.range.result c.requires (c.range.ensures.in_range tt) c.in-Some.ensures.steps)

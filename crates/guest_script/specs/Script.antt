@@ -1,0 +1,98 @@
+use Rattle.std.specs.Prelude.{◌≡◌, ℕ, ◌+◌, ◌==◌, Bool, false, List, [], ◌∷◌, ◌++◌, length, sum_by, nat_le, nat_lt, if◌then◌else◌, Result, Ok, Err}
+use Rattle.std.specs.List.{slice_split}
+use Rattle.std.specs.Str.{is_utf8}
+use Rattle.event_core.specs.declared.command.Command.{Command}
+use Rattle.event_core.specs.declared.command.Command.TheVariants as command
+use Rattle.guest_script.specs.declared.fault.Why.{Why}
+use Rattle.guest_script.specs.declared.fault.Why.TheVariants as why
+use Rattle.guest_script.specs.declared.fault.ScriptFault.{ScriptFault}
+use Rattle.guest_script.specs.declared.fault.ScriptFault.TheVariants as fault
+use Rattle.guest_script.specs.declared.fault.LineFault.{LineFault}
+use Rattle.guest_script.specs.declared.fault.LineFault.TheVariants as line_fault
+use Rattle.guest_script.specs.Words.{words_of}
+use Rattle.guest_script.specs.Commands.{command_of}
+
+-- whether the first word begins with #
+abbrev pub is_comment : List (List ℕ) → Bool
+is_comment [] = false
+is_comment ([] ∷ words) = false
+is_comment ((b ∷ bs) ∷ words) = b == 35
+
+-- the words of a line of at most 1,048,576 bytes of UTF-8; a comment has none
+unfoldable pub line_words : List ℕ → Result (List (List ℕ)) Why
+line_words line =
+    if nat_lt 1048576 (length line) then Err why.TooLong
+    else if is_utf8 line then Ok (if is_comment (words_of line) then [] else words_of line)
+    else Err why.NotUtf8
+
+-- the bytes that a command names: its LEN, or the bytes of its HEX; accept and query name none
+abbrev pub named_bytes : Command → ℕ
+named_bytes (command.Alloc name order) = 0
+named_bytes (command.Free name) = 0
+named_bytes (command.Accept start len) = 0
+named_bytes (command.Query start len) = 0
+named_bytes (command.Read name off len) = len
+named_bytes (command.Write name off hex) = length hex
+named_bytes (command.Fill name off len byte) = len
+named_bytes (command.Load name off) = 0
+named_bytes (command.Share name) = 0
+named_bytes (command.Private name) = 0
+named_bytes (command.Map mapping name off len direction mask) = len
+named_bytes (command.SyncDev mapping off len) = len
+named_bytes (command.SyncCpu mapping off len) = len
+named_bytes (command.Unmap mapping skip) = 0
+named_bytes (command.DRead mapping off len) = len
+named_bytes (command.DWrite mapping off hex) = length hex
+named_bytes (command.HostRead off len) = len
+named_bytes (command.HostWrite off hex) = length hex
+
+-- a fault of a line, with the line's number
+abbrev pub at_line : {A : Type 0} → ℕ → Result A Why → Result A ScriptFault
+at_line number (Ok x) = Ok x
+at_line number (Err why) = Err (fault.Line number why)
+
+-- what follows, where there is no fault
+abbrev pub followed_by : {A B : Type 0} → Result A ScriptFault → (A → Result B ScriptFault) → Result B ScriptFault
+followed_by (Ok x) next = next x
+followed_by (Err e) next = Err e
+
+-- the script with one more command, whose bytes may name 4,194,304 together with those before it
+abbrev pub with_command : List Command → Command → Result (List Command) ScriptFault
+with_command script command = if nat_lt 4194304 (sum_by named_bytes script + named_bytes command) then Err fault.TooManyBytes else Ok (script ++ command ∷ [])
+
+-- the script with the command of a line's words; a line without words is skipped, and there are at most 2,048 commands
+unfoldable pub with_words : ℕ → List Command → List (List ℕ) → Result (List Command) ScriptFault
+with_words number script [] = Ok script
+with_words number script (first ∷ words) =
+    if nat_le 2048 (length script) then Err fault.TooManyLines
+    else followed_by (at_line number (command_of first words)) (with_command script)
+
+-- the script with the command of a line of this number
+unfoldable pub with_line : ℕ → List Command → List ℕ → Result (List Command) ScriptFault
+with_line number script line = followed_by (at_line number (line_words line)) (with_words number script)
+
+-- the script with the commands of lines, numbered from number on: the first fault in their order
+abbrev pub with_lines : ℕ → List Command → List (List ℕ) → Result (List Command) ScriptFault
+with_lines number script [] = Ok script
+with_lines number script (line ∷ lines) = followed_by (with_line number script line) (λ longer. with_lines (number + 1) longer lines)
+
+-- the script of a file: its lines stand between line feeds, and what stands after the last line feed is a line too, skipped where it is empty (own rule)
+abbrev pub script_of : List ℕ → Result (List Command) ScriptFault
+script_of bytes = with_lines 1 [] (slice_split (λ b. b == 10) bytes)
+
+-- a fault of a line, or want of memory, as a fault of the script
+abbrev pub fault_at : ℕ → LineFault → ScriptFault
+fault_at number (line_fault.Why w) = fault.Line number w
+fault_at number line_fault.NoMemory = fault.NoMemory
+
+-- a fault is what reading answers, unless memory ran out
+abbrev pub ScriptFails : {A : Type 0} → ScriptFault → Result A ScriptFault → Type 0
+ScriptFails fault.NoMemory read = Unit {0}
+ScriptFails (fault.Line number why) read = read ≡ Err (fault.Line number why)
+ScriptFails fault.TooManyLines read = read ≡ Err fault.TooManyLines
+ScriptFails fault.TooManyBytes read = read ≡ Err fault.TooManyBytes
+
+-- what was returned is what reading answers, unless memory ran out
+abbrev pub ScriptGives : {A : Type 0} → Result A ScriptFault → Result A ScriptFault → Type 0
+ScriptGives (Ok x) read = read ≡ Ok x
+ScriptGives (Err e) read = ScriptFails e read
