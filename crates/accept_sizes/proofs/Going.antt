@@ -1,9 +1,9 @@
-use Rattle.std.proofs.Common.{◌≡◌, ◌≢◌, ◌⊎◌, ℕ, suc, zero, ◌+◌, ◌-◌, ◌*◌, ◌/◌, ◌%◌, ◌^◌, ◌<◌, ◌≤◌, Bool, true, false, ◌&&◌, Option, None, Some, List, [], ◌∷◌, ◌++◌, refl, sym, ◌∙◌, ap, subst, inl, inr, arith, cond, append_assoc, append-nil, ◌==◌, eqb-true, eq-eqb}
-use Rattle.std.specs.Prelude.{nat_le, if◌then◌else◌}
+use Rattle.std.proofs.Common.{◌≡◌, ◌≢◌, ◌⊎◌, ℕ, ◌+◌, ◌-◌, ◌/◌, ◌%◌, ◌^◌, ◌<◌, ◌≤◌, Bool, true, false, ◌&&◌, Option, None, Some, List, [], ◌∷◌, ◌++◌, refl, sym, ◌∙◌, ap, subst, inl, inr, arith, cond, append_assoc, append-nil, ◌==◌, eqb-true, eq-eqb}
+use Rattle.std.specs.Prelude.{nat_le}
 use Rattle.std.proofs.lemmas.Bool.{cases_Bool, cases_lt}
 use Rattle.guest_base.specs.Ranges.{in_range}
-use Rattle.guest_base.specs.Search.{each_such, first_such}
-use Rattle.guest_base.proofs.SearchLemmas.{AllSuch, IsFirstSuch, each_such_is, each_such-true, first_such_is, first_such_none, NoneSuch}
+use Rattle.guest_base.specs.Search.{each_such}
+use Rattle.guest_base.proofs.SearchLemmas.{each_such_is, each_such-true, first_such_is, first_such_none}
 use Rattle.guest_base.specs.Levels.{level_pages, level_at}
 use Rattle.guest_base.specs.declared.memory.Level.{Level}
 use Rattle.guest_base.specs.declared.memory.Pages.{Pages}
@@ -14,12 +14,12 @@ use Rattle.guest_base.specs.declared.memory.PageState.TheVariants.{Pending, Acce
 use Rattle.event_core.specs.declared.module_call.ModuleCall.{ModuleCall}
 use Rattle.event_core.specs.declared.module_call.PortAnswer.{PortAnswer}
 use Rattle.event_core.specs.declared.module_call.PortAnswer.TheVariants.{Ok as AnsweredOk, SizeMismatch, Failed}
-use Rattle.event_core.specs.Calls.{state_after, after_call, is_smaller, is_done, covers}
+use Rattle.event_core.specs.Calls.{state_after, after_call, is_done, covers}
 use Rattle.event_core.proofs.SoundLemmas.{state_after-append}
 use Rattle.event_core.proofs.StepsLemmas.{not_both}
-use Rattle.event_core.specs.Acceptance.{fits, levels_below, greatest_fitting, place_of_next, MayEnd, AcceptanceSteps, IsAcceptCall, goes_on_at, tried_at, stop_of, stop_by}
+use Rattle.event_core.specs.Acceptance.{fits, levels_below, greatest_fitting, place_of_next, MayEnd, AcceptanceSteps, goes_on_at, tried_at, stop_of, stop_by}
 use Rattle.event_core.specs.MemoryRows.{is_pending}
-use Rattle.page_module.specs.States.{state_in, AllIn}
+use Rattle.page_module.specs.States.{state_in}
 use Rattle.page_module.specs.Spans.{Taken, Becomes}
 use Rattle.page_module.specs.Marking.{IsFirstPending, NonePending}
 use Rattle.page_module.specs.Modules.{answer_by, accept_call, AfterCall, MayAccept}

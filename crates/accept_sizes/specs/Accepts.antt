@@ -1,6 +1,5 @@
-use Rattle.std.specs.Prelude.{ℕ, List, Bool, Option, None, Some, ◌≡◌, ◌++◌, ◌+◌}
+use Rattle.std.specs.Prelude.{ℕ, List, Bool, None, ◌≡◌, ◌+◌}
 use Rattle.guest_base.specs.declared.memory.HostRun.{HostRun}
-use Rattle.guest_base.specs.declared.memory.Page.{Page}
 use Rattle.event_core.specs.declared.module_call.ModuleCall.{ModuleCall}
 use Rattle.event_core.specs.Acceptance.{AcceptanceSteps}
 use Rattle.event_core.specs.Calls.{state_after}

@@ -1,5 +1,5 @@
-use Rattle.std.proofs.Common.{◌≡◌, ◌≢◌, ℕ, zero, suc, ◌+◌, ◌-◌, ◌*◌, ◌/◌, ◌%◌, ◌^◌, ◌<◌, ◌≤◌, Bool, true, false, ◌&&◌, Option, None, Some, List, [], ◌∷◌, ◌++◌, refl, sym, ◌∙◌, ap, subst, inl, inr, arith, cond, ◌==◌, eqb-true, eq-eqb, map, nat_le, length}
-use Rattle.std.specs.Prelude.{All, if◌then◌else◌}
+use Rattle.std.proofs.Common.{◌≡◌, ℕ, zero, suc, ◌+◌, ◌-◌, ◌*◌, ◌%◌, ◌^◌, ◌≤◌, Bool, true, false, Option, None, List, [], ◌∷◌, ◌++◌, refl, sym, ap, subst, inl, inr, arith, cond, ◌==◌, eq-eqb, map}
+use Rattle.std.specs.Prelude.{All}
 use Rattle.std.specs.List.{flat_map, AllByRecursion}
 use Rattle.std.proofs.lemmas.Bool.{cases_Bool}
 use Rattle.std.proofs.lemmas.Bool.Decides.{nat_tests}
@@ -11,7 +11,7 @@ use Rattle.guest_base.specs.declared.memory.Page.{Page}
 use Rattle.event_core.specs.declared.boot.Boot.{Boot}
 use Rattle.event_core.specs.declared.module_call.ModuleCall.{ModuleCall}
 use Rattle.event_core.specs.Cut.{pages_end, joined, ram_ranges, without_pool, may_stand, order_at, blocks_from, blocks_of, cut}
-use Rattle.event_core.specs.Boot.{InTurn, Stage, StagePart, BlockAccepted, AcceptsRange}
+use Rattle.event_core.specs.Boot.{InTurn, StagePart, BlockAccepted, AcceptsRange}
 use Rattle.guest_boot.specs.FirstForm.{IsWholeBlocks}
 
 -- RAM of whole blocks of the greatest order is cut into these only, for which boot has no call to make

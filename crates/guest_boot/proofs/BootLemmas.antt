@@ -1,4 +1,4 @@
-use Rattle.std.proofs.Common.{◌≡◌, ◌≢◌, ℕ, ◌+◌, ◌-◌, ◌*◌, ◌/◌, ◌%◌, ◌^◌, ◌<◌, ◌≤◌, Bool, true, false, ◌&&◌, Option, None, Some, List, [], ◌∷◌, ◌++◌, refl, sym, ◌∙◌, ap, subst, inl, inr, arith, cond, ◌==◌, eqb-true, length, map}
+use Rattle.std.proofs.Common.{◌≡◌, ℕ, ◌+◌, ◌*◌, ◌/◌, ◌%◌, ◌^◌, ◌<◌, ◌≤◌, Bool, true, Option, None, Some, List, [], ◌∷◌, ◌++◌, refl, sym, ◌∙◌, ap, subst, inl, inr, arith, ◌==◌, eqb-true, length, map}
 use Rattle.std.specs.Prelude.{All, IfSome}
 use Rattle.std.proofs.lemmas.Bool.{cases_lt}
 use Rattle.std.proofs.lemmas.Bool.Decides.{nat_tests}
@@ -6,14 +6,13 @@ use Rattle.guest_base.specs.Ranges.{in_range}
 use Rattle.guest_base.specs.declared.memory.PageRun.{PageRun}
 use Rattle.guest_base.specs.declared.memory.Pages.{Pages}
 use Rattle.guest_base.specs.declared.memory.HostRun.{HostRun}
-use Rattle.guest_base.specs.declared.memory.PageState.TheVariants.{Pending}
 use Rattle.event_core.specs.declared.boot.Descriptor.{Descriptor}
 use Rattle.event_core.specs.declared.boot.Boot.{Boot}
 use Rattle.event_core.specs.declared.module_call.ModuleCall.{ModuleCall}
 use Rattle.event_core.specs.Map.{MapRules, first_state}
 use Rattle.event_core.specs.Runs.{AreMaximalRuns, state_in}
 use Rattle.event_core.specs.Stub.{default_unit, unaccepted, round_down, least_start, stub_base, stub_length, stub_bit, EarlyPieces}
-use Rattle.event_core.specs.Units.{bit_of, unit_count, unit_first, unit_pages}
+use Rattle.event_core.specs.Units.{bit_of, unit_count}
 use Rattle.event_core.specs.Boot.{BootRight, BootCalls, InTurn, StagePart, BlockAccepted, stages_of, pool_stages}
 use Rattle.event_core.specs.Cut.{cut}
 use Rattle.unaccepted_bitmap.specs.BitmapValue.{Bits}

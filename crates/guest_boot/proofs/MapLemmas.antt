@@ -1,14 +1,13 @@
-use Rattle.std.proofs.Common.{◌≡◌, ◌≢◌, ℕ, ◌+◌, ◌-◌, ◌*◌, ◌/◌, ◌%◌, ◌^◌, ◌<◌, ◌≤◌, Bool, true, false, ◌&&◌, Option, None, Some, List, [], ◌∷◌, refl, sym, ◌∙◌, ap, inl, inr, arith, cond, ◌==◌, eqb-true, get_or, filter, nat_le, length}
+use Rattle.std.proofs.Common.{◌≡◌, ℕ, ◌+◌, ◌*◌, ◌%◌, ◌^◌, ◌<◌, ◌≤◌, Bool, true, false, ◌&&◌, None, Some, List, [], ◌∷◌, refl, sym, ◌∙◌, ap, inl, inr, arith, cond, ◌==◌, eqb-true, filter, nat_le}
 use Rattle.std.specs.Prelude.{◌||◌, All, if◌then◌else◌}
 use Rattle.std.specs.List.{list_any}
-use Rattle.std.proofs.lemmas.Bool.{cases_Bool, cases_lt}
+use Rattle.std.proofs.lemmas.Bool.{cases_Bool}
 use Rattle.std.proofs.lemmas.Bool.Decides.{nat_tests}
 use Rattle.std.proofs.lemmas.List.Elements.{All-tail}
 use Rattle.std.proofs.lemmas.List.Folds.{list_any_none}
-use Rattle.guest_base.specs.Ranges.{in_range}
-use Rattle.guest_base.specs.declared.memory.PageState.TheVariants.{Pending, Accepted}
+use Rattle.guest_base.specs.declared.memory.PageState.TheVariants.{Pending}
 use Rattle.event_core.specs.declared.boot.Descriptor.{Descriptor}
-use Rattle.event_core.specs.Map.{is_ram, is_unaccepted, holds_page, first_state, descriptor_end, IsDescriptor}
+use Rattle.event_core.specs.Map.{is_ram, is_unaccepted, holds_page, first_state, IsDescriptor}
 use Rattle.event_core.specs.Stub.{is_short, holds_unit}
 
 -- ---- RAM lies in memory

@@ -1,4 +1,4 @@
-use Rattle.std.specs.Prelude.{ℕ, List, [], None, ◌≡◌, ◌%◌}
+use Rattle.std.specs.Prelude.{List, [], None, ◌≡◌, ◌%◌}
 use Rattle.guest_base.specs.declared.memory.PageRun.{PageRun}
 use Rattle.event_core.specs.declared.boot.Boot.{Boot}
 use Rattle.event_core.specs.Stub.{default_unit}

@@ -1,4 +1,4 @@
-use Rattle.std.specs.Prelude.{ℕ, List, [], Option, None, Some, Bool, true, ◌≡◌, ◌≢◌, ◌^◌, ◌<◌}
+use Rattle.std.specs.Prelude.{ℕ, [], Option, None, Some, true, ◌≡◌, ◌≢◌, ◌^◌, ◌<◌}
 use Rattle.guest_base.specs.Ranges.{in_range}
 use Rattle.guest_base.specs.declared.memory.PageState.TheVariants.{Pending}
 use Rattle.event_core.specs.declared.boot.Boot.{Boot}

@@ -1,6 +1,5 @@
-use Rattle.std.proofs.Common.{◌≡◌, ◌≢◌, ◌⊎◌, ℕ, suc, zero, ◌+◌, ◌-◌, ◌*◌, ◌<◌, ◌≤◌, Bool, true, false, ◌&&◌, Option, None, Some, List, [], ◌∷◌, ◌++◌, refl, sym, ◌∙◌, ap, subst, inl, inr, arith, cond, append_assoc, append-nil, ◌==◌, length, length-append}
+use Rattle.std.proofs.Common.{◌≡◌, ℕ, ◌+◌, Bool, Option, None, Some, List, [], ◌∷◌, ◌++◌, refl, sym, ◌∙◌, ap, subst, cond, append-nil, length, length-append}
 use Rattle.std.specs.Prelude.{is_some, slice_get}
-use Rattle.guest_base.specs.declared.memory.Page.{Page}
 use Rattle.guest_base.specs.declared.memory.Units.{Units}
 use Rattle.guest_base.specs.declared.memory.PageState.{PageState}
 use Rattle.event_core.specs.declared.boot.Boot.{Boot}
@@ -8,14 +7,13 @@ use Rattle.event_core.specs.declared.command.Command.{Command}
 use Rattle.event_core.specs.declared.command.Command.TheVariants as command
 use Rattle.event_core.specs.declared.module_call.ModuleCall.{ModuleCall}
 use Rattle.event_core.specs.declared.event.Event.TheVariants as event
-use Rattle.event_core.specs.declared.entry.Place.TheVariants as place
 use Rattle.event_core.specs.declared.entry.Entry.{Entry}
 use Rattle.event_core.specs.declared.reply.Reply.{Reply}
 use Rattle.event_core.specs.declared.reply.Reply.TheVariants as reply
 use Rattle.event_core.specs.Calls.{calls_in, calls_of}
 use Rattle.event_core.specs.Acceptance.{stop_of}
-use Rattle.event_core.specs.Units.{guarded_units, bit_after, run_after, units_end, units_cleared}
-use Rattle.event_core.specs.Claims.{Claimed, claim_of, claim_step, opened, goes_on}
+use Rattle.event_core.specs.Units.{guarded_units}
+use Rattle.event_core.specs.Claims.{Claimed, claim_step, opened, goes_on}
 use Rattle.event_core.specs.Refusals.{refusal_of, memory_range_refusal}
 use Rattle.event_core.specs.MemoryRows.{run_of_claim, report_event, next_run, cleared_by, AcceptsUnits, some_unaccepted}
 use Rattle.event_core.specs.Moved.{entries_of}
@@ -25,7 +23,7 @@ use Rattle.event_core.specs.Legal.{with_moved, at_place, place_of, CallsFit}
 use Rattle.event_core.proofs.StandingLemmas.{calls_of-push, claim_of-push}
 use Rattle.guest_run.specs.Standing.{Stands}
 use Rattle.guest_run.specs.Running.{Running, At, entry_for, made_entry}
-use Rattle.guest_run.proofs.OneProcessor.{running-push, running-placed, refused-next, claim-next, report-next, report-fits, query-next, replied-push, there, Placed}
+use Rattle.guest_run.proofs.OneProcessor.{running-push, running-placed, refused-next, claim-next, report-next, report-fits, query-next, replied-push}
 
 length-push : {A : Type 0} (xs : List A) (x : A) → length (xs ++ x ∷ []) ≡ length xs + 1
 length-push xs x = length-append xs (x ∷ [])

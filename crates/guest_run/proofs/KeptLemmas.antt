@@ -1,16 +1,11 @@
-use Rattle.std.proofs.Common.{◌≡◌, ◌≢◌, ◌⊎◌, ℕ, suc, zero, ◌+◌, ◌-◌, ◌*◌, ◌/◌, ◌<◌, ◌≤◌, Bool, true, false, ◌&&◌, Option, None, Some, List, [], ◌∷◌, ◌++◌, refl, sym, ◌∙◌, ap, subst, inl, inr, arith, cond, length, ◌==◌, eqb-true, eq-eqb}
-use Rattle.std.specs.Prelude.{if◌then◌else◌, not, nat_lt}
+use Rattle.std.proofs.Common.{◌≡◌, ◌≢◌, ◌⊎◌, ℕ, ◌+◌, ◌-◌, ◌*◌, ◌/◌, ◌<◌, ◌≤◌, Bool, true, false, ◌&&◌, None, refl, sym, ◌∙◌, ap, subst, inl, inr, arith, cond, length, ◌==◌, eqb-true, eq-eqb}
+use Rattle.std.specs.Prelude.{not, nat_lt}
 use Rattle.std.proofs.lemmas.Bool.{cases_Bool, cases_lt}
 use Rattle.guest_base.specs.Ranges.{in_range}
-use Rattle.guest_base.specs.Search.{any_such, first_such, count_such}
-use Rattle.guest_base.proofs.SearchLemmas.{any_such_is, any_such_none, first_such_none, NoneSuch, count_such-append, count_such-pass, count_such-fail, count_such-zero}
-use Rattle.guest_base.specs.declared.memory.Units.{Units}
+use Rattle.guest_base.specs.Search.{any_such, count_such}
+use Rattle.guest_base.proofs.SearchLemmas.{any_such_is, any_such_none, first_such_none, count_such-append, count_such-pass, count_such-fail, count_such-zero}
 use Rattle.guest_base.specs.declared.memory.Pages.{Pages}
-use Rattle.guest_base.specs.declared.memory.PageState.{PageState}
-use Rattle.guest_base.specs.declared.memory.PageState.TheVariants.{Pending}
-use Rattle.event_core.specs.Units.{bit_of, first_run, run_at, unit_count}
-use Rattle.event_core.specs.MemoryRows.{is_pending}
-use Rattle.page_module.specs.States.{state_in}
+use Rattle.event_core.specs.Units.{bit_of, first_run, run_at}
 use Rattle.page_module.specs.Spans.{Taken}
 use Rattle.page_module.specs.Marking.{IsFirstPending, NonePending}
 use Rattle.accept_sizes.specs.Accepts.{pending_of}

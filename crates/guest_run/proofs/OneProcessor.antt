@@ -1,15 +1,13 @@
-use Rattle.std.proofs.Common.{◌≡◌, ◌≢◌, ◌⊎◌, ℕ, suc, zero, ◌+◌, ◌-◌, ◌*◌, ◌<◌, ◌≤◌, Bool, true, false, ◌&&◌, Option, None, Some, List, [], ◌∷◌, ◌++◌, refl, sym, ◌∙◌, ap, subst, inl, inr, arith, cond, append_assoc, append-nil, ◌==◌, eqb-true, eq-eqb, max, All, length}
-use Rattle.std.specs.Prelude.{fold, map, filter, is_some, is_none, slice_get, count_by}
+use Rattle.std.proofs.Common.{◌≡◌, ℕ, ◌+◌, ◌<◌, ◌≤◌, Bool, false, Option, None, Some, List, [], ◌∷◌, ◌++◌, refl, sym, ◌∙◌, ap, subst, inl, inr, arith, cond, append_assoc, append-nil, eq-eqb, max, All}
+use Rattle.std.specs.Prelude.{fold, map, filter, is_some, slice_get, count_by}
 use Rattle.std.specs.Option.{option_and_then, option_map}
 use Rattle.std.specs.List.{AllByRecursion}
-use Rattle.std.proofs.lemmas.Bool.{cases_Bool, cases_lt}
+use Rattle.std.proofs.lemmas.Bool.{cases_Bool}
 use Rattle.std.proofs.lemmas.List.Sums.{fold-append}
 use Rattle.std.proofs.lemmas.List.Elements.{All-nil, All-cons}
-use Rattle.guest_base.specs.Search.{first_such, any_such}
+use Rattle.guest_base.specs.Search.{any_such}
 use Rattle.guest_base.proofs.SearchLemmas.{first_such_none}
-use Rattle.guest_base.specs.declared.memory.CpuNo.{CpuNo}
 use Rattle.guest_base.specs.declared.memory.Units.{Units}
-use Rattle.guest_base.specs.declared.memory.Block.{Block}
 use Rattle.event_core.specs.declared.boot.Boot.{Boot}
 use Rattle.event_core.specs.declared.command.Command.{Command}
 use Rattle.event_core.specs.declared.command.Command.TheVariants as command
@@ -24,16 +22,15 @@ use Rattle.event_core.specs.declared.reply.Reply.TheVariants as reply
 use Rattle.event_core.specs.Calls.{calls_in, calls_of}
 use Rattle.event_core.specs.Acceptance.{stop_of}
 use Rattle.event_core.specs.Units.{guarded_units, units_cleared, bit_after, run_after}
-use Rattle.event_core.specs.Claims.{Claimed, claim_of, in_the_way, claim_meets, claim_step}
+use Rattle.event_core.specs.Claims.{Claimed, claim_of, in_the_way, claim_meets}
 use Rattle.event_core.specs.Moved.{Moved, entries_of, made_by}
 use Rattle.event_core.specs.Own.{present, replied}
 use Rattle.event_core.specs.Refusals.{refusal_of, memory_range_refusal}
-use Rattle.event_core.specs.MemoryRows.{claim_event, run_of_claim, report_event, next_run, cleared_by, AcceptsUnits, some_unaccepted}
+use Rattle.event_core.specs.MemoryRows.{run_of_claim, report_event, next_run, cleared_by, AcceptsUnits, some_unaccepted}
 use Rattle.event_core.specs.Next.{Step, next_step, step_of, unrefused_step, refused_or, accept_step, claim_reply, report_reply}
-use Rattle.event_core.specs.Legal.{FollowsOver, Follows, LegalAfter, Legal, Whole, bare, with_bytes, moved_after, with_moved, at_place, place_of, same_place, CallsFit, ComesBefore, greatest_stamp, stamp_of}
-use Rattle.event_core.specs.Turns.{TakenIn, is_idle, Turned}
+use Rattle.event_core.specs.Legal.{Follows, LegalAfter, bare, with_bytes, moved_after, with_moved, at_place, place_of, same_place, CallsFit, ComesBefore, greatest_stamp, stamp_of}
 use Rattle.event_core.proofs.StandingLemmas.{IsPlaced, claim_of-memory, calls_of-memory}
-use Rattle.event_core.proofs.SoundLemmas.{entries_of-push, placed-push}
+use Rattle.event_core.proofs.SoundLemmas.{entries_of-push}
 use Rattle.guest_run.specs.Running.{IsMine, History, entry_for, Running}
 
 -- Histories of one processor, whose number is 0.

@@ -1,27 +1,24 @@
-use Rattle.std.proofs.Common.{◌≡◌, ◌≢◌, ℕ, zero, suc, ◌+◌, ◌-◌, ◌*◌, ◌<◌, ◌≤◌, Bool, true, false, ◌&&◌, Option, None, Some, List, [], ◌∷◌, ◌++◌, refl, sym, ◌∙◌, ap, subst, inl, inr, arith, cond, length, append_assoc, append-nil}
-use Rattle.std.specs.Prelude.{slice_get, is_some, IfSome, nat_lt, max, min, ◌/◌}
+use Rattle.std.proofs.Common.{◌≡◌, ℕ, suc, ◌+◌, ◌-◌, ◌*◌, ◌<◌, ◌≤◌, Bool, true, false, Option, None, Some, List, [], ◌∷◌, ◌++◌, refl, sym, ◌∙◌, ap, subst, arith, cond, append-nil}
+use Rattle.std.specs.Prelude.{slice_get, IfSome, nat_lt, max, min, ◌/◌}
 use Rattle.std.specs.Option.{option_and_then}
 use Rattle.unaccepted_bitmap.specs.BitmapValue.{Bits}
-use Rattle.std.proofs.lemmas.Bool.{cases_Bool, cases_lt}
 use Rattle.guest_base.specs.Ranges.{in_range}
 use Rattle.guest_base.specs.Search.{first_such, row_length}
-use Rattle.guest_base.proofs.SearchLemmas.{first_such-Some, first_such_same, row_length_same, row_length-pass_each, row_length-le, row_length-pass, SameSuch, any_such_same}
+use Rattle.guest_base.proofs.SearchLemmas.{first_such-Some, first_such_same, row_length_same, row_length-pass_each, row_length-le, row_length-pass, any_such_same}
 use Rattle.guest_base.specs.declared.memory.Page.{Page}
 use Rattle.guest_base.specs.declared.memory.Units.{Units}
-use Rattle.guest_base.specs.declared.memory.PageState.{PageState}
 use Rattle.event_core.specs.declared.boot.Boot.{Boot}
 use Rattle.event_core.specs.declared.command.Command.{Command}
 use Rattle.event_core.specs.declared.command.Command.TheVariants as command
 use Rattle.event_core.specs.declared.module_call.ModuleCall.{ModuleCall}
 use Rattle.event_core.specs.declared.event.Event.TheVariants as event
-use Rattle.event_core.specs.declared.entry.Place.TheVariants as place
 use Rattle.event_core.specs.declared.entry.Entry.{Entry}
 use Rattle.event_core.specs.declared.reply.Reply.{Reply}
 use Rattle.event_core.specs.Moved.{Moved}
 use Rattle.event_core.specs.Refusals.{refusal_of, memory_range_refusal}
 use Rattle.event_core.specs.Calls.{calls_of, calls_in}
 use Rattle.event_core.specs.Acceptance.{stop_of}
-use Rattle.event_core.specs.Units.{bit_after, first_run, run_at, units_end, units_cleared, unit_count, guarded, guarded_units, with_guard, units_between}
+use Rattle.event_core.specs.Units.{bit_after, first_run, run_at, units_cleared, unit_count, guarded, guarded_units, with_guard, units_between}
 use Rattle.event_core.specs.Claims.{Claimed, goes_on, opened}
 use Rattle.event_core.specs.MemoryRows.{next_run, AcceptsUnits, run_of_claim, some_unaccepted}
 use Rattle.event_core.specs.Next.{Step, report_reply, claim_reply}

@@ -1,12 +1,11 @@
-use Rattle.std.proofs.Common.{◌≡◌, ℕ, suc, zero, ◌+◌, ◌-◌, ◌*◌, ◌^◌, ◌<◌, ◌≤◌, Bool, true, false, ◌&&◌, Option, None, Some, List, [], ◌∷◌, ◌++◌, refl, sym, ◌∙◌, ap, subst, inl, inr, arith, cond, append_assoc, append-nil, ◌==◌, eqb-true, eq-eqb, length, get_or, map, filter, nat_le}
-use Rattle.std.specs.Prelude.{IfSome, slice_get, slice_set, find, ◌||◌, All, Result, Ok, Err, IfOk, OnOk}
+use Rattle.std.proofs.Common.{◌≡◌, ℕ, suc, zero, ◌+◌, ◌-◌, ◌^◌, ◌<◌, Bool, true, false, ◌&&◌, Option, None, Some, List, [], ◌∷◌, ◌++◌, refl, sym, ◌∙◌, ap, subst, inl, inr, arith, cond, append_assoc, append-nil, ◌==◌, eqb-true, eq-eqb, length, get_or, map, filter}
+use Rattle.std.specs.Prelude.{IfSome, slice_get, slice_set, find, All, Result, Ok, Err, IfOk, OnOk}
 use Rattle.std.specs.Option.{option_map}
 use Rattle.std.specs.List.{filter_map, flat_map, AllByRecursion}
 use Rattle.std.proofs.Math.Path.{fun_ext}
 use Rattle.std.proofs.lemmas.Bool.{cases_Bool, cases_lt}
 use Rattle.std.proofs.lemmas.Bool.Decides.{nat_tests}
 use Rattle.std.proofs.lemmas.List.Elements.{filter_map-append, filter-append, All-tail}
-use Rattle.std.proofs.lemmas.List.Folds.{list_any_none}
 use Rattle.guest_base.specs.declared.memory.PageRun.{PageRun}
 use Rattle.guest_base.specs.declared.memory.HostRun.{HostRun}
 use Rattle.event_core.specs.declared.boot.Descriptor.{Descriptor}
@@ -16,7 +15,7 @@ use Rattle.event_core.specs.declared.command.Command.{Command}
 use Rattle.event_core.specs.declared.module_call.ModuleCall.{ModuleCall}
 use Rattle.event_core.specs.declared.entry.Entry.{Entry}
 use Rattle.event_core.specs.declared.reply.Reply.{Reply}
-use Rattle.event_core.specs.Map.{is_ram, is_unaccepted, holds_page, first_state, IsDescriptor, MapRules}
+use Rattle.event_core.specs.Map.{MapRules}
 use Rattle.event_core.specs.Runs.{run_holds, state_in, AreMaximalRuns}
 use Rattle.event_core.specs.Calls.{States, calls_in, calls_of, is_done, covers, after_call, state_after, SoundCalls}
 use Rattle.event_core.specs.Boot.{BootRight}

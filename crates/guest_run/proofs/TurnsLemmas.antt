@@ -1,10 +1,10 @@
 use Rattle.std.proofs.Common.{◌≡◌, ◌≢◌, ℕ, zero, suc, ◌+◌, ◌-◌, ◌*◌, ◌^◌, ◌<◌, ◌≤◌, Bool, true, false, ◌&&◌, Option, None, Some, List, [], ◌∷◌, ◌++◌, refl, sym, ◌∙◌, ap, subst, inl, inr, arith, cond, length, append_assoc, append-nil, All}
-use Rattle.std.specs.Prelude.{slice_get, slice_index, is_some, is_none, find, nat_lt, ◌/◌, ◌%◌, ◌||◌, ◌==◌}
+use Rattle.std.specs.Prelude.{slice_get, slice_index, is_none, find, nat_lt, ◌/◌, ◌%◌, ◌||◌, ◌==◌}
 use Rattle.std.specs.Int.{bit_at}
 use Rattle.std.proofs.lemmas.List.Sorted.{IsPermutation-refl}
 use Rattle.std.specs.Option.{option_and_then, option_map}
 use Rattle.std.specs.List.{AllByRecursion, AllPairs, list_any}
-use Rattle.std.proofs.lemmas.Bool.{cases_Bool, cases_lt}
+use Rattle.std.proofs.lemmas.Bool.{cases_Bool}
 use Rattle.std.proofs.lemmas.List.Elements.{All-nil, All-cons, recursion_from_All}
 use Rattle.std.proofs.lemmas.List.Kept.{AllPairs-cons}
 use Rattle.guest_base.specs.Ranges.{in_range}
@@ -12,7 +12,6 @@ use Rattle.guest_base.specs.Search.{any_such}
 use Rattle.guest_base.proofs.SearchLemmas.{any_such_is}
 use Rattle.guest_base.specs.declared.memory.PageRun.{PageRun}
 use Rattle.guest_base.specs.declared.memory.PageState.{PageState}
-use Rattle.guest_base.specs.declared.memory.PageState.TheVariants.{Pending, Accepted, Shared}
 use Rattle.guest_base.specs.declared.memory.Units.{Units}
 use Rattle.event_core.specs.declared.boot.Boot.{Boot}
 use Rattle.event_core.specs.declared.command.Command.{Command}
@@ -23,19 +22,17 @@ use Rattle.event_core.specs.declared.event.Event.TheVariants as event
 use Rattle.event_core.specs.declared.entry.Place.TheVariants as place
 use Rattle.event_core.specs.declared.entry.Entry.{Entry}
 use Rattle.event_core.specs.declared.reply.Reply.{Reply}
-use Rattle.event_core.specs.Calls.{calls_in, calls_of}
+use Rattle.event_core.specs.Calls.{calls_in}
 use Rattle.event_core.specs.Runs.{AreMaximalRuns, GoesBefore, run_holds, run_end, state_in as state_by}
-use Rattle.event_core.specs.Units.{bit_of, bit_after, is_marked, guarded_units, unit_first, unit_pages}
-use Rattle.event_core.specs.Claims.{Claimed, claim_of, in_the_way}
+use Rattle.event_core.specs.Units.{bit_of, bit_after, guarded_units, unit_first, unit_pages}
+use Rattle.event_core.specs.Claims.{Claimed, claim_of}
 use Rattle.event_core.specs.Moved.{Moved, entries_of, made_by}
-use Rattle.event_core.specs.Own.{present, replied}
+use Rattle.event_core.specs.Own.{replied}
 use Rattle.event_core.specs.Refusals.{refusal_of}
-use Rattle.event_core.specs.MemoryRows.{page_state, is_pending, claim_event, run_of_claim}
+use Rattle.event_core.specs.MemoryRows.{is_pending, run_of_claim}
 use Rattle.event_core.specs.Next.{Step, next_step, step_of, unrefused_step, refused_or, accept_step, claim_reply}
-use Rattle.event_core.specs.Legal.{Follows, LegalAfter, Legal, Whole, with_bytes, with_moved, moved_after, at_place, place_of}
-use Rattle.event_core.specs.Turns.{TakenIn, is_idle, Turned, rounds_of, numbers_from}
-use Rattle.event_core.proofs.StandingLemmas.{claim_of-memory, IsPlaced}
-use Rattle.event_core.proofs.SoundLemmas.{entries_of-push}
+use Rattle.event_core.specs.Legal.{LegalAfter, Whole, with_bytes, with_moved, at_place}
+use Rattle.event_core.specs.Turns.{TakenIn, is_idle, Turned, rounds_of}
 use Rattle.page_module.specs.States.{state_in}
 use Rattle.page_module.specs.Tables.{IsMaximal, Rising, Differing}
 use Rattle.unaccepted_bitmap.specs.BitmapValue.{Bits}
@@ -44,7 +41,7 @@ use Rattle.guest_run.specs.First.{IsFirstCommand}
 use Rattle.guest_run.specs.Running.{IsMine, At}
 use Rattle.guest_run.specs.Standing.{Stands}
 use Rattle.guest_run.specs.Kept.{bits_in, SameBits}
-use Rattle.guest_run.proofs.OneProcessor.{clear-way, mine-all, running-start, all-push, moved-entries}
+use Rattle.guest_run.proofs.OneProcessor.{clear-way, mine-all, running-start, moved-entries}
 
 -- ---- no turn is idle
 

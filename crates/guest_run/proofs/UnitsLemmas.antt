@@ -1,10 +1,10 @@
-use Rattle.std.proofs.Common.{◌≡◌, ◌≢◌, ℕ, zero, suc, ◌+◌, ◌-◌, ◌*◌, ◌/◌, ◌^◌, ◌<◌, ◌≤◌, Bool, true, false, ◌&&◌, Option, None, Some, List, [], ◌∷◌, ◌++◌, refl, sym, ◌∙◌, ap, subst, inl, inr, arith, cond, length}
+use Rattle.std.proofs.Common.{◌≡◌, ◌≢◌, ℕ, zero, suc, ◌+◌, ◌-◌, ◌*◌, ◌/◌, ◌^◌, ◌<◌, ◌≤◌, Bool, true, false, ◌&&◌, Option, None, Some, List, refl, sym, ◌∙◌, ap, subst, inl, inr, arith, cond}
 use Rattle.std.specs.Prelude.{nat_lt, not}
 use Rattle.std.proofs.Math.Nat.{mul-le-mul_right, mul-le-mul_left}
-use Rattle.std.proofs.lemmas.Bool.{cases_Bool, cases_lt}
+use Rattle.std.proofs.lemmas.Bool.{cases_lt}
 use Rattle.guest_base.specs.Ranges.{in_range}
 use Rattle.guest_base.specs.Search.{any_such, count_such}
-use Rattle.guest_base.proofs.SearchLemmas.{count_such_same, any_such_same}
+use Rattle.guest_base.proofs.SearchLemmas.{count_such_same}
 use Rattle.guest_base.specs.declared.memory.PageRun.{PageRun}
 use Rattle.guest_base.specs.declared.memory.PageState.{PageState}
 use Rattle.guest_base.specs.declared.memory.PageState.TheVariants.{Pending}
@@ -19,7 +19,7 @@ use Rattle.page_module.specs.States.{state_in}
 use Rattle.unaccepted_bitmap.specs.BitmapValue.{Bits}
 use Rattle.guest_boot.specs.Worlds.{BitsMeanPending, RamIsLow}
 use Rattle.guest_run.specs.Standing.{Stands}
-use Rattle.guest_run.specs.Kept.{WorkedOn, ClearedBy, SameBits, bits_in, unit_first_of, unit_pages_of}
+use Rattle.guest_run.specs.Kept.{WorkedOn, SameBits, bits_in, unit_first_of, unit_pages_of}
 use Rattle.guest_run.proofs.StandsLemmas.{OneRun, bit-was, state_after-some}
 
 in_range-elim : (first count n : ℕ) → in_range first count n ≡ true → (first ≤ n) × (n < first + count)

@@ -1,4 +1,3 @@
-use Rattle.std.specs.Prelude.{ℕ, List, [], ◌∷◌}
 use Rattle.event_core.specs.declared.command.Command.{Command}
 use Rattle.event_core.specs.declared.command.Command.TheVariants.{Accept, Query}
 

@@ -1,4 +1,4 @@
-use Rattle.std.specs.Prelude.{ℕ, List, [], Option, None, Some, Bool, false, true, ◌≡◌, ◌+◌, ◌*◌, ◌/◌, ◌<◌, ◌≤◌, length, ◌&&◌, not, if◌then◌else◌}
+use Rattle.std.specs.Prelude.{ℕ, List, [], Option, None, Some, Bool, false, ◌≡◌, ◌+◌, ◌*◌, ◌/◌, ◌<◌, length, ◌&&◌, not, if◌then◌else◌}
 use Rattle.guest_base.specs.Ranges.{in_range}
 use Rattle.guest_base.specs.Search.{any_such, count_such}
 use Rattle.guest_base.specs.declared.memory.HostRun.{HostRun}
@@ -7,7 +7,7 @@ use Rattle.guest_base.specs.declared.memory.Units.{Units}
 use Rattle.event_core.specs.declared.boot.Boot.{Boot}
 use Rattle.guest_base.specs.declared.memory.PageState.{PageState}
 use Rattle.event_core.specs.declared.module_call.ModuleCall.{ModuleCall}
-use Rattle.event_core.specs.Units.{bit_of, unit_count, unit_pages, bit_after}
+use Rattle.event_core.specs.Units.{bit_of, unit_pages}
 use Rattle.event_core.specs.Calls.{state_after}
 use Rattle.event_core.specs.Acceptance.{AcceptanceSteps}
 use Rattle.event_core.specs.MemoryRows.{is_pending}

@@ -1,4 +1,4 @@
-use Rattle.std.specs.Prelude.{ℕ, List, Option, None, Some, Bool, true, ◌≡◌, ◌+◌, ◌<◌, ◌≤◌, slice_get}
+use Rattle.std.specs.Prelude.{ℕ, List, Option, None, Some, true, ◌≡◌, ◌+◌, ◌<◌, ◌≤◌, slice_get}
 use Rattle.guest_base.specs.Ranges.{in_range}
 use Rattle.guest_base.specs.declared.memory.Units.{Units}
 use Rattle.event_core.specs.declared.module_call.ModuleCall.{ModuleCall}

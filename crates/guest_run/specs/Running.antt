@@ -1,4 +1,4 @@
-use Rattle.std.specs.Prelude.{ℕ, List, [], ◌∷◌, ◌++◌, Option, None, Some, Bool, ◌≡◌, ◌+◌, ◌≤◌, length}
+use Rattle.std.specs.Prelude.{ℕ, List, [], ◌∷◌, Option, Bool, ◌≡◌, ◌+◌, ◌≤◌, length}
 use Rattle.std.specs.List.{AllByRecursion}
 use Rattle.guest_base.specs.declared.memory.PageState.{PageState}
 use Rattle.event_core.specs.declared.boot.Boot.{Boot}

@@ -1,12 +1,12 @@
-use Rattle.std.proofs.Common.{rules, ◌≡◌, ◌≢◌, ℕ, ◌+◌, ◌<◌, ◌≤◌, ◌++◌, [], ◌∷◌, List, true, false, Option, None, Some, refl, sym, ◌∙◌, ap, subst, arith, append-nil, append_assoc, Fits, w64, ◌^◌}
-use Rattle.event_core.specs.declared.module_call.PortAnswer.TheVariants.{Ok as AnsweredOk, SizeMismatch, Failed}
+use Rattle.std.proofs.Common.{rules, ◌≡◌, ◌≢◌, ◌<◌, ◌≤◌, ◌++◌, [], ◌∷◌, None, sym, ap, arith, append-nil, ◌^◌}
+use Rattle.event_core.specs.declared.module_call.PortAnswer.TheVariants.{Ok as AnsweredOk}
 use Rattle.guest_base.specs.declared.memory.Level.TheVariants.{Small}
 use Rattle.guest_base.specs.declared.memory.Pages.{Pages}
 use Rattle.accept_sizes.specs.Room.{most_calls_of}
 use Rattle.accept_sizes.specs.Accepts.{span_end}
 use Rattle.page_module.specs.Marking.{NonePending}
 use Rattle.page_module.specs.Modules.{accept_call}
-use Rattle.accept_sizes.proofs.Going.{Going, calls_left, within-of, found-run, found-may, was-not-small, left-here, done-left, left-first, going-done, going-failed, going-stopped, going-whole, small-failed, left-failed, after-done, after-undone, calls-push, going-start, span-end, found-some, before-span}
+use Rattle.accept_sizes.proofs.Going.{calls_left, within-of, found-run, found-may, was-not-small, left-here, done-left, left-first, going-done, going-failed, going-stopped, going-whole, small-failed, left-failed, after-done, after-undone, calls-push, going-start, span-end, found-some, before-span}
 use Rattle.accept_sizes.proofs.accept.accept_run.Goals as goal
 
 pub try_call-answer-requires-clause-room : goal.try_call-answer-requires-clause-room

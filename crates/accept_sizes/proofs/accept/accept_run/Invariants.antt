@@ -1,4 +1,4 @@
-use Rattle.std.proofs.Common.{◌≡◌, ℕ, List, ◌++◌, ◌+◌, ◌≤◌}
+use Rattle.std.proofs.Common.{◌≡◌, List, ◌++◌, ◌≤◌}
 use Rattle.event_core.specs.declared.module_call.ModuleCall.{ModuleCall}
 use Rattle.accept_sizes.specs.Accepts.{span_end}
 use Rattle.accept_sizes.proofs.Going.{Going, calls_left}

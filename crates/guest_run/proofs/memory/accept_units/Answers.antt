@@ -1,14 +1,10 @@
-use Rattle.std.proofs.Common.{◌≡◌, ◌≢◌, ℕ, ◌+◌, ◌*◌, ◌<◌, ◌≤◌, ◌++◌, List, [], refl, sym, ◌∙◌, ap, arith, subst, cond, None, Some, true, false, Option}
-use Rattle.guest_base.specs.Ranges.{in_range}
-use Rattle.unaccepted_bitmap.specs.BitmapValue.{Bits}
-use Rattle.event_core.specs.declared.boot.Boot.{Boot}
-use Rattle.event_core.specs.Units.{bit_of, unit_pages}
-use Rattle.event_core.specs.MemoryRows.{pages_first, pages_count, is_pending}
+use Rattle.std.proofs.Common.{◌≡◌, ◌*◌, sym, ◌∙◌, ap, arith}
+use Rattle.event_core.specs.Units.{bit_of}
+use Rattle.event_core.specs.MemoryRows.{pages_count, is_pending}
 use Rattle.page_module.specs.States.{state_in}
-use Rattle.guest_run.specs.Standing.{Stands}
-use Rattle.guest_run.specs.Kept.{KeptFor, SameBits, bits_in, table_of, unit_first_of, unit_pages_of}
+use Rattle.guest_run.specs.Kept.{bits_in, table_of, unit_pages_of}
 use Rattle.guest_run.proofs.StandsLemmas.{run-accepts, run-stands, run-cleared}
-use Rattle.guest_run.proofs.UnitsLemmas.{SameUnits, same-units, set-here, stands-here, run-inside, run-low, run-page-pending, one-run, same-count, run-here, same-pages, same-first, pages-inside, none-set}
+use Rattle.guest_run.proofs.UnitsLemmas.{same-units, set-here, stands-here, run-inside, run-low, run-page-pending, one-run, same-count, run-here, same-pages, same-first, pages-inside, none-set}
 use Rattle.guest_run.proofs.memory.accept_units.Goals as goal
 
 pub work-requires-clause-inside : goal.work-requires-clause-inside

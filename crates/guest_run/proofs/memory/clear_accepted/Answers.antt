@@ -1,4 +1,4 @@
-use Rattle.std.proofs.Common.{◌≡◌, true, false, refl, sym, ◌∙◌, ap, arith, rules, subst}
+use Rattle.std.proofs.Common.{◌≡◌, true, false, sym, ◌∙◌, ap, rules, subst}
 use Rattle.unaccepted_bitmap.specs.BitmapValue.{Bits, ClearsBits}
 use Rattle.accept_sizes.specs.Accepts.{pending_of}
 use Rattle.guest_run.proofs.KeptLemmas.{further-start, further-clear, further-keep}

@@ -1,10 +1,6 @@
-use Rattle.std.proofs.Common.{◌≡◌, List, [], ◌++◌, sym, subst, refl, ap, ◌∙◌, rules, append-nil, None, Some, Option, length}
+use Rattle.std.proofs.Common.{◌≡◌, List, [], sym, subst, ◌∙◌, append-nil}
 use Rattle.event_core.specs.declared.entry.Entry.{Entry}
-use Rattle.event_core.specs.declared.boot.Boot.{Boot}
-use Rattle.unaccepted_bitmap.specs.BitmapValue.{Bits}
-use Rattle.guest_boot.specs.Worlds.{BitsAre}
 use Rattle.guest_run.specs.declared.processor.Processor.{Processor}
-use Rattle.guest_run.specs.Kept.{KeptFor, SameBits}
 use Rattle.guest_run.specs.Ready.{Ready}
 use Rattle.guest_run.proofs.TurnsLemmas.{rising-boot, at-first, stands-first, same-first}
 use Rattle.guest_run.proofs.one.started.Goals as goal

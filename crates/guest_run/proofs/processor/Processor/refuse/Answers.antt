@@ -1,4 +1,4 @@
-use Rattle.std.proofs.Common.{◌≡◌, ◌+◌, sym, subst}
+use Rattle.std.proofs.Common.{◌+◌, sym, subst}
 use Rattle.guest_run.specs.declared.processor.Processor.{Processor}
 use Rattle.guest_run.specs.Ready.{Ready}
 use Rattle.guest_run.proofs.ReadyLemmas.{ready-refused}

@@ -1,4 +1,4 @@
-use Rattle.std.proofs.Common.{◌≡◌, ℕ, ◌+◌, ◌≤◌, ◌++◌, ◌∷◌, [], List, Option, None, Some, refl, sym, ◌∙◌, ap, subst, arith, length}
+use Rattle.std.proofs.Common.{◌≡◌, ℕ, ◌+◌, ◌++◌, ◌∷◌, [], Option, sym, ◌∙◌, ap, subst, arith, length}
 use Rattle.guest_base.specs.declared.memory.Units.{Units}
 use Rattle.event_core.specs.declared.reply.Reply.{Reply}
 use Rattle.event_core.specs.declared.entry.Entry.{Entry}

@@ -1,4 +1,4 @@
-use Rattle.std.proofs.Common.{◌≡◌, ℕ, ◌+◌, ◌-◌}
+use Rattle.std.proofs.Common.{◌≡◌, ◌+◌, ◌-◌}
 use Rattle.guest_run.specs.Ready.{Claiming}
 use Rattle.guest_run.proofs.processor.Processor.report_all.Given as goal
 
