@@ -1,0 +1,3 @@
+pub mod BootFacts
+pub mod Evaluated
+pub mod PrintFacts

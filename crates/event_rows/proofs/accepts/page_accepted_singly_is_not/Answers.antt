@@ -1,0 +1,5 @@
+use Rattle.event_rows.proofs.Evaluated.{page_accepted_singly-not}
+use Rattle.event_rows.proofs.accepts.page_accepted_singly_is_not.Goals as goal
+
+pub returns : goal.returns
+returns c = page_accepted_singly-not
