@@ -1,3 +1,4 @@
 pub mod StepsLemmas
 pub mod StandingLemmas
+pub mod RangedLemmas
 pub mod SoundLemmas

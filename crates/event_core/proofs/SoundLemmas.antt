@@ -1,5 +1,5 @@
 use Rattle.std.proofs.Common.{◌≡◌, ◌≢◌, ℕ, ◌<◌, Bool, true, false, ◌&&◌, Option, None, Some, List, [], ◌∷◌, ◌++◌, refl, sym, ◌∙◌, ap, subst, inl, inr, arith, append_assoc, append-nil, eqb-true}
-use Rattle.std.specs.Prelude.{◌==◌, slice_get, length}
+use Rattle.std.specs.Prelude.{◌==◌, slice_get, length, IfSome}
 use Rattle.std.specs.Option.{option_and_then, option_map}
 use Rattle.std.specs.List.{AllByRecursion}
 use Rattle.std.proofs.Math.Nat.{max_comm, min_comm}
@@ -26,11 +26,14 @@ use Rattle.event_core.specs.Claims.{Claimed, claim_step, goes_on, opened, claim_
 use Rattle.event_core.specs.Units.{units_end}
 use Rattle.event_core.specs.MemoryRows.{page_state, pending_in, AcceptsUnits, claim_event, run_of_claim}
 use Rattle.event_core.specs.Moved.{Moved, entries_of, made_by}
-use Rattle.event_core.specs.Own.{present, replied}
+use Rattle.event_core.specs.Holdings.{Own}
+use Rattle.event_core.specs.Own.{present, replied, own_of, script_of}
+use Rattle.event_core.specs.RangedScripts.{IsRanged, RangedScripts}
 use Rattle.event_core.specs.Refusals.{refusal_of}
 use Rattle.event_core.specs.Next.{Step, next_step, step_of, unrefused_step, refused_or, accept_step}
 use Rattle.event_core.specs.Legal.{Follows, LegalAfter, Legal, with_bytes, at_place, place_of, CallsFit, same_place}
 use Rattle.event_core.proofs.StepsLemmas.{steps-sound, pending-is}
+use Rattle.event_core.proofs.RangedLemmas.{IsRangedEvent, follows-ranged, present-ranged}
 use Rattle.event_core.proofs.StandingLemmas.{IsPlaced, quiet, claim_of-memory, calls_of-memory, calls_of-push, claim_of-push}
 
 pub state_after-append : (states : States) (a b : List ModuleCall) → state_after states (a ++ b) ≡ state_after (state_after states a) b
@@ -52,25 +55,12 @@ accepts-sound boot before run calls steps =
     steps-sound boot.hosts _ _ _ _ calls (page_state boot before) (λ page low in_set. pending-is (page_state boot before page) (both_second _ _ in_set)) steps
 
 -- what an entry that follows calls is sound after a history
-fit-sound : (boot : Boot) (memory : List Entry) (e : Event) → CallsFit boot memory e → SoundCalls (page_state boot (calls_of boot memory)) (calls_in e)
-fit-sound boot memory (event.Report run calls stopped next) fit = accepts-sound boot (calls_of boot memory) run calls fit
-fit-sound boot memory (event.ConvertEnd block calls end) fit = absurd fit
-fit-sound boot memory event.Own fit = tt
-fit-sound boot memory (event.Claim block units run) fit = tt
-fit-sound boot memory (event.Got block) fit = tt
-fit-sound boot memory event.NoBlock fit = tt
-fit-sound boot memory (event.Freed block) fit = tt
-fit-sound boot memory (event.Asked found) fit = tt
-fit-sound boot memory (event.Touched page found) fit = tt
-fit-sound boot memory (event.ConvertBegin block to) fit = tt
-fit-sound boot memory (event.Looked area run) fit = tt
-fit-sound boot memory (event.CopiedIn run off len) fit = tt
-fit-sound boot memory (event.CopiedOut run off len) fit = tt
-fit-sound boot memory (event.Released run copied) fit = tt
-fit-sound boot memory (event.DeviceRead run off len) fit = tt
-fit-sound boot memory (event.DeviceWrote run off len) fit = tt
-fit-sound boot memory (event.HostRead off len) fit = tt
-fit-sound boot memory (event.HostWrote off len) fit = tt
+fit-sound : (boot : Boot) (memory : List Entry) (e : Event) → IsRangedEvent e → CallsFit boot memory e → SoundCalls (page_state boot (calls_of boot memory)) (calls_in e)
+fit-sound boot memory (event.Report run calls stopped next) ranged fit = accepts-sound boot (calls_of boot memory) run calls fit
+fit-sound boot memory event.Own ranged fit = tt
+fit-sound boot memory (event.Claim block units run) ranged fit = tt
+fit-sound boot memory (event.Asked found) ranged fit = tt
+fit-sound boot memory _ ranged fit = absurd ranged
 
 pub entries_of-push : (history : List Moved) (m : Moved) → entries_of (history ++ m ∷ []) ≡ entries_of history ++ m.entry ∷ []
 entries_of-push [] m = refl
@@ -86,30 +76,30 @@ same_place-Memory (place.Area a) h = cc
 same_place-Memory place.Own h = cc
 
 -- a memory's calls that fit stand where its entries do
-follows-sound : (boot : Boot) (scripts : List (List Command)) (history : List Moved) (entry : Entry) → AllByRecursion (IsPlaced boot) history → Follows boot scripts history entry → SoundCalls (page_state boot (calls_of boot (entries_of history))) (calls_in entry.event)
-follows-sound boot scripts history entry placed f =
+follows-sound : (boot : Boot) (scripts : List (List Command)) (history : List Moved) (entry : Entry) → RangedScripts scripts → AllByRecursion (IsPlaced boot) history → Follows boot scripts history entry → SoundCalls (page_state boot (calls_of boot (entries_of history))) (calls_in entry.event)
+follows-sound boot scripts history entry ranged placed f =
     elim (cases_Bool (same_place place.Memory (place_of boot entry.event))) [
       | inl t ↦
           (let at : entry.place ≡ place.Memory = f.over.place ∙ same_place-Memory (place_of boot entry.event) t in
           let P : List ModuleCall → Type 0 = λ calls. SoundCalls (page_state boot calls) (calls_in entry.event) in
           subst P (ap (λ p. calls_of boot (entries_of (at_place p history))) at ∙ calls_of-memory boot history placed)
-          (fit-sound boot (entries_of (at_place entry.place history)) entry.event f.over.calls))
+          (fit-sound boot (entries_of (at_place entry.place history)) entry.event (follows-ranged boot scripts history entry ranged f).0 f.over.calls))
       | inr q ↦
           (let P : List ModuleCall → Type 0 = λ calls. SoundCalls (page_state boot (calls_of boot (entries_of history))) calls in
           subst P (sym (quiet boot entry.event q).0) tt)
     ]
 
 -- a legal history's calls are sound
-pub legal-sound : (boot : Boot) (scripts : List (List Command)) (history : List Moved) (entries : List Entry) → AllByRecursion (IsPlaced boot) history → SoundCalls (state_in boot.ram) (calls_of boot (entries_of history)) → LegalAfter boot scripts history entries → SoundCalls (state_in boot.ram) (calls_of boot (entries_of history ++ entries))
-legal-sound boot scripts history [] placed sound legal = rw (append-nil (entries_of history)) sound
-legal-sound boot scripts history (entry ∷ entries) placed sound legal =
-    let m = with_bytes boot history entry in
+pub legal-sound : (boot : Boot) (scripts : List (List Command)) (history : List Moved) (entries : List Entry) → RangedScripts scripts → AllByRecursion (IsPlaced boot) history → SoundCalls (state_in boot.ram) (calls_of boot (entries_of history)) → LegalAfter boot scripts history entries → SoundCalls (state_in boot.ram) (calls_of boot (entries_of history ++ entries))
+legal-sound boot scripts history [] ranged placed sound legal = rw (append-nil (entries_of history)) sound
+legal-sound boot scripts history (entry ∷ entries) ranged placed sound legal =
+    let m = with_bytes boot scripts history entry in
     let pushed = entries_of-push history m in
-    let now = SoundCalls-append (state_in boot.ram) (calls_of boot (entries_of history)) (calls_in entry.event) sound (follows-sound boot scripts history entry placed legal.0) in
+    let now = SoundCalls-append (state_in boot.ram) (calls_of boot (entries_of history)) (calls_in entry.event) sound (follows-sound boot scripts history entry ranged placed legal.0) in
     let P : List ModuleCall → Type 0 = SoundCalls (state_in boot.ram) in
     let Q : List Entry → Type 0 = λ es. SoundCalls (state_in boot.ram) (calls_of boot es) in
     subst Q (ap (λ es. es ++ entries) pushed ∙ append_assoc (entries_of history) (entry ∷ []) entries)
-    (legal-sound boot scripts (history ++ m ∷ []) entries (placed-push boot history m placed legal.0.over.place)
+    (legal-sound boot scripts (history ++ m ∷ []) entries ranged (placed-push boot history m placed legal.0.over.place)
     (subst P (sym (ap (calls_of boot) pushed ∙ calls_of-push boot (entries_of history) entry)) now) legal.2)
 
 -- ---- claims are apart
@@ -143,28 +133,28 @@ accept-claim boot memory None asked calls block units run reply h =
     claim_event-clear boot memory block None units asked run (mapped_claim (claim_event boot memory None asked) _ _ _ h)
 accept-claim boot memory (Some claim) asked calls block units run reply h = let no = ap (option_map (λ (s : Step). s.event)) h in cc
 
-unrefused-claim : (boot : Boot) (cpu : ℕ) (own : List Moved) (there : List Entry) (c : Command) (calls : List ModuleCall) (block : Option Block) (units run : Option Units) (reply : Option Reply) → unrefused_step boot cpu own there c calls ≡ Some (record { event = event.Claim block units run; reply = reply }) → in_the_way boot there units ≡ None
-unrefused-claim boot cpu own there (command.Accept start len) calls block units run reply h = accept-claim boot there _ _ calls block units run reply h
-unrefused-claim boot cpu own there (command.Query start len) calls block units run reply h = let no = ap (option_map (λ (s : Step). s.event)) h in cc
-unrefused-claim boot cpu own there _ calls block units run reply h = cc
+unrefused-claim : (boot : Boot) (cpu : ℕ) (own : Own) (there : List Moved) (c : Command) (calls : List ModuleCall) (block : Option Block) (units run : Option Units) (reply : Option Reply) → IsRanged c → unrefused_step boot cpu own there c calls ≡ Some (record { event = event.Claim block units run; reply = reply }) → in_the_way boot (entries_of there) units ≡ None
+unrefused-claim boot cpu own there (command.Accept start len) calls block units run reply ranged h = accept-claim boot (entries_of there) _ _ calls block units run reply h
+unrefused-claim boot cpu own there (command.Query start len) calls block units run reply ranged h = let no = ap (option_map (λ (s : Step). s.event)) h in cc
+unrefused-claim boot cpu own there _ calls block units run reply ranged h = absurd ranged
 
 refused-claim : (refusal : Option Reply) (step : Option Step) (block : Option Block) (units run : Option Units) (reply : Option Reply) → refused_or refusal step ≡ Some (record { event = event.Claim block units run; reply = reply }) → step ≡ Some (record { event = event.Claim block units run; reply = reply })
 refused-claim None step block units run reply h = h
 refused-claim (Some r) step block units run reply h = let no = ap (option_map (λ (s : Step). s.event)) h in cc
 
-present-claim : (boot : Boot) (cpu : ℕ) (own : List Moved) (there : List Entry) (c : Option Command) (calls : List ModuleCall) (block : Option Block) (units run : Option Units) (reply : Option Reply) → option_and_then (λ command. step_of boot cpu own there command calls) c ≡ Some (record { event = event.Claim block units run; reply = reply }) → in_the_way boot there units ≡ None
-present-claim boot cpu own there None calls block units run reply h = cc
-present-claim boot cpu own there (Some c) calls block units run reply h = unrefused-claim boot cpu own there c calls block units run reply (refused-claim (refusal_of boot own c) _ block units run reply h)
+present-claim : (boot : Boot) (cpu : ℕ) (own : Own) (there : List Moved) (c : Option Command) (calls : List ModuleCall) (block : Option Block) (units run : Option Units) (reply : Option Reply) → IfSome c IsRanged → option_and_then (λ command. step_of boot cpu own there command calls) c ≡ Some (record { event = event.Claim block units run; reply = reply }) → in_the_way boot (entries_of there) units ≡ None
+present-claim boot cpu own there None calls block units run reply ranged h = cc
+present-claim boot cpu own there (Some c) calls block units run reply ranged h = unrefused-claim boot cpu own there c calls block units run reply ranged (refused-claim (refusal_of boot own c) _ block units run reply h)
 
-next-claim : (boot : Boot) (scripts : List (List Command)) (cpu : ℕ) (own : List Moved) (there : List Entry) (calls : List ModuleCall) (block : Option Block) (units run : Option Units) (reply : Option Reply) → next_step boot scripts cpu own there calls ≡ Some (record { event = event.Claim block units run; reply = reply }) → in_the_way boot there units ≡ None
-next-claim boot scripts cpu own there calls block units run reply h = present-claim boot cpu own there (present scripts cpu own) calls block units run reply h
+next-claim : (boot : Boot) (scripts : List (List Command)) (cpu : ℕ) (own there : List Moved) (calls : List ModuleCall) (block : Option Block) (units run : Option Units) (reply : Option Reply) → RangedScripts scripts → next_step boot scripts cpu own there calls ≡ Some (record { event = event.Claim block units run; reply = reply }) → in_the_way boot (entries_of there) units ≡ None
+next-claim boot scripts cpu own there calls block units run reply ranged h = present-claim boot cpu (own_of (script_of scripts cpu) own) there (present scripts cpu own) calls block units run reply (present-ranged scripts cpu own ranged) h
 
 -- a processor with a step has a script
-next-cpu : (boot : Boot) (scripts : List (List Command)) (cpu : ℕ) (own : List Moved) (there : List Entry) (calls : List ModuleCall) (s : Step) → next_step boot scripts cpu own there calls ≡ Some s → cpu < length scripts
+next-cpu : (boot : Boot) (scripts : List (List Command)) (cpu : ℕ) (own there : List Moved) (calls : List ModuleCall) (s : Step) → next_step boot scripts cpu own there calls ≡ Some s → cpu < length scripts
 next-cpu boot scripts cpu own there calls s h =
     elim (cases_lt cpu (length scripts)) [
       | inl low ↦ low
-      | inr high ↦ (let none = slice_get_past scripts cpu high in let no : None ≡ Some s = sym (ap (λ script. option_and_then (λ command. step_of boot cpu own there command calls) (option_and_then (λ commands. slice_get commands (replied own)) script)) none) ∙ h in cc)
+      | inr high ↦ (let none = slice_get_past scripts cpu high in let no : None ≡ Some s = sym (ap (λ script. option_and_then (λ command. step_of boot cpu (own_of (script_of scripts cpu) own) there command calls) (option_and_then (λ commands. slice_get commands (replied own)) script)) none) ∙ h in cc)
     ]
 
 -- the claims after entries: each is a processor's, and they are apart
@@ -217,31 +207,31 @@ after boot entries entry cpu claim h =
     ]
 
 -- a processor that makes a claim meets no claim of another
-mine-clear : (boot : Boot) (scripts : List (List Command)) (history : List Moved) (entry : Entry) (block : Option Block) (units run : Units) → AllByRecursion (IsPlaced boot) history → Follows boot scripts history entry → entry.event ≡ event.Claim block (Some units) (Some run) → (cpu : ℕ) (other : Claimed) → cpu < boot.cpus → claim_of boot (entries_of history) cpu ≡ Some other → units_meet other.units units ≡ false
-mine-clear boot scripts history entry block units run placed f is cpu other low claims =
+mine-clear : (boot : Boot) (scripts : List (List Command)) (history : List Moved) (entry : Entry) (block : Option Block) (units run : Units) → RangedScripts scripts → AllByRecursion (IsPlaced boot) history → Follows boot scripts history entry → entry.event ≡ event.Claim block (Some units) (Some run) → (cpu : ℕ) (other : Claimed) → cpu < boot.cpus → claim_of boot (entries_of history) cpu ≡ Some other → units_meet other.units units ≡ false
+mine-clear boot scripts history entry block units run ranged placed f is cpu other low claims =
     let there = entries_of (at_place entry.place history) in
     let stepped = f.over.step ∙ ap (λ e. Some (let s : Step = record { event = e; reply = entry.reply } in s)) is in
-    let clear = next-claim boot scripts entry.cpu.0 (made_by entry.cpu.0 history) there (calls_in entry.event) block (Some units) (Some run) entry.reply stepped in
+    let clear = next-claim boot scripts entry.cpu.0 (made_by entry.cpu.0 history) (at_place entry.place history) (calls_in entry.event) block (Some units) (Some run) entry.reply ranged stepped in
     let at : entry.place ≡ place.Memory = f.over.place ∙ ap (place_of boot) is in
     let claimed : claim_of boot there cpu ≡ Some other = ap (λ p. claim_of boot (entries_of (at_place p history)) cpu) at ∙ claim_of-memory boot cpu history placed ∙ claims in
     sym (ap (claim_meets units) claimed) ∙ in_the_way-none boot there units clear cpu low
 
-pair_apart : (boot : Boot) (scripts : List (List Command)) (history : List Moved) (entry : Entry) → AllByRecursion (IsPlaced boot) history → Follows boot scripts history entry → AreApart boot (entries_of history) → (c d : ℕ) (a b : Units) → c ≢ d → After boot (entries_of history) entry c a → After boot (entries_of history) entry d b → units_meet a b ≡ false
-pair_apart boot scripts history entry placed f was c d a b differ (Mine block run same is) (Mine block' run' same' is') = absurd (differ (sym same ∙ same'))
-pair_apart boot scripts history entry placed f was c d a b differ (Mine block run same is) (Before old had there) =
-    units_meet-swap a b ∙ ap (λ u. units_meet u a) (sym there) ∙ mine-clear boot scripts history entry block a run placed f is d old (was.low d old had) had
-pair_apart boot scripts history entry placed f was c d a b differ (Before old had there) (Mine block run same is) =
-    ap (λ u. units_meet u b) (sym there) ∙ mine-clear boot scripts history entry block b run placed f is c old (was.low c old had) had
-pair_apart boot scripts history entry placed f was c d a b differ (Before old had there) (Before other had' there') =
+pair_apart : (boot : Boot) (scripts : List (List Command)) (history : List Moved) (entry : Entry) → RangedScripts scripts → AllByRecursion (IsPlaced boot) history → Follows boot scripts history entry → AreApart boot (entries_of history) → (c d : ℕ) (a b : Units) → c ≢ d → After boot (entries_of history) entry c a → After boot (entries_of history) entry d b → units_meet a b ≡ false
+pair_apart boot scripts history entry ranged placed f was c d a b differ (Mine block run same is) (Mine block' run' same' is') = absurd (differ (sym same ∙ same'))
+pair_apart boot scripts history entry ranged placed f was c d a b differ (Mine block run same is) (Before old had there) =
+    units_meet-swap a b ∙ ap (λ u. units_meet u a) (sym there) ∙ mine-clear boot scripts history entry block a run ranged placed f is d old (was.low d old had) had
+pair_apart boot scripts history entry ranged placed f was c d a b differ (Before old had there) (Mine block run same is) =
+    ap (λ u. units_meet u b) (sym there) ∙ mine-clear boot scripts history entry block b run ranged placed f is c old (was.low c old had) had
+pair_apart boot scripts history entry ranged placed f was c d a b differ (Before old had there) (Before other had' there') =
     ap (λ u. units_meet u b) (sym there) ∙ ap (units_meet old.units) (sym there') ∙ was.apart c d old other differ had had'
 
-pub apart-push : (boot : Boot) (scripts : List (List Command)) (history : List Moved) (entry : Entry) → length scripts ≡ boot.cpus → AllByRecursion (IsPlaced boot) history → Follows boot scripts history entry → AreApart boot (entries_of history) → AreApart boot (entries_of history ++ entry ∷ [])
-apart-push boot scripts history entry cpus placed f was = record {
+pub apart-push : (boot : Boot) (scripts : List (List Command)) (history : List Moved) (entry : Entry) → RangedScripts scripts → length scripts ≡ boot.cpus → AllByRecursion (IsPlaced boot) history → Follows boot scripts history entry → AreApart boot (entries_of history) → AreApart boot (entries_of history ++ entry ∷ [])
+apart-push boot scripts history entry ranged cpus placed f was = record {
   low = λ cpu claim h. elim (after boot (entries_of history) entry cpu claim h) [
-    | Mine block run same is ↦ (let low = next-cpu boot scripts entry.cpu.0 (made_by entry.cpu.0 history) (entries_of (at_place entry.place history)) (calls_in entry.event) (record { event = entry.event; reply = entry.reply }) f.over.step in omega (arith, low, same, cpus))
+    | Mine block run same is ↦ (let low = next-cpu boot scripts entry.cpu.0 (made_by entry.cpu.0 history) (at_place entry.place history) (calls_in entry.event) (record { event = entry.event; reply = entry.reply }) f.over.step in omega (arith, low, same, cpus))
     | Before old had there ↦ was.low cpu old had
   ];
-  apart = λ c d a b differ ha hb. pair_apart boot scripts history entry placed f was c d a.units b.units differ (after boot (entries_of history) entry c a ha) (after boot (entries_of history) entry d b hb);
+  apart = λ c d a b differ ha hb. pair_apart boot scripts history entry ranged placed f was c d a.units b.units differ (after boot (entries_of history) entry c a ha) (after boot (entries_of history) entry d b hb);
 }
 
 no_claim : (boot : Boot) (cpu : ℕ) → claim_of boot [] cpu ≡ None
@@ -255,24 +245,24 @@ apart-start boot = record {
 }
 
 -- the claims are apart after a legal history
-pub legal-apart : (boot : Boot) (scripts : List (List Command)) (history : List Moved) (entries : List Entry) → length scripts ≡ boot.cpus → AllByRecursion (IsPlaced boot) history → AreApart boot (entries_of history) → LegalAfter boot scripts history entries → AreApart boot (entries_of history ++ entries)
-legal-apart boot scripts history [] cpus placed was legal = rw (append-nil (entries_of history)) was
-legal-apart boot scripts history (entry ∷ entries) cpus placed was legal =
-    let m = with_bytes boot history entry in
+pub legal-apart : (boot : Boot) (scripts : List (List Command)) (history : List Moved) (entries : List Entry) → RangedScripts scripts → length scripts ≡ boot.cpus → AllByRecursion (IsPlaced boot) history → AreApart boot (entries_of history) → LegalAfter boot scripts history entries → AreApart boot (entries_of history ++ entries)
+legal-apart boot scripts history [] ranged cpus placed was legal = rw (append-nil (entries_of history)) was
+legal-apart boot scripts history (entry ∷ entries) ranged cpus placed was legal =
+    let m = with_bytes boot scripts history entry in
     let pushed = entries_of-push history m in
     let P : List Entry → Type 0 = AreApart boot in
     subst P (ap (λ es. es ++ entries) pushed ∙ append_assoc (entries_of history) (entry ∷ []) entries)
-    (legal-apart boot scripts (history ++ m ∷ []) entries cpus (placed-push boot history m placed legal.0.over.place)
-    (subst P (sym pushed) (apart-push boot scripts history entry cpus placed legal.0 was)) legal.2)
+    (legal-apart boot scripts (history ++ m ∷ []) entries ranged cpus (placed-push boot history m placed legal.0.over.place)
+    (subst P (sym pushed) (apart-push boot scripts history entry ranged cpus placed legal.0 was)) legal.2)
 
 -- what begins a legal history is legal
 pub legal-front : (boot : Boot) (scripts : List (List Command)) (history : List Moved) (before later : List Entry) → LegalAfter boot scripts history (before ++ later) → LegalAfter boot scripts history before
 legal-front boot scripts history [] later legal = tt
-legal-front boot scripts history (entry ∷ before) later legal = (legal.0, legal.1, legal-front boot scripts (history ++ with_bytes boot history entry ∷ []) before later legal.2)
+legal-front boot scripts history (entry ∷ before) later legal = (legal.0, legal.1, legal-front boot scripts (history ++ with_bytes boot scripts history entry ∷ []) before later legal.2)
 
--- a legal history accepts no page twice, where boot's calls are sound
-pub accepted_once : (boot : Boot) (scripts : List (List Command)) (entries : List Entry) → length scripts ≡ boot.cpus → SoundCalls (state_in boot.ram) boot.calls → Legal boot scripts entries → AcceptedOnce boot entries
-accepted_once boot scripts entries cpus sound legal = record {
-  sound = legal-sound boot scripts [] entries tt (rw (append-nil boot.calls) sound) legal;
-  apart = λ before later is. (legal-apart boot scripts [] before cpus tt (apart-start boot) (legal-front boot scripts [] before later (let P : List Entry → Type 0 = Legal boot scripts in subst P is legal))).apart;
+-- a legal history of commands on ranges accepts no page twice, where boot's calls are sound
+pub accepted_once : (boot : Boot) (scripts : List (List Command)) (entries : List Entry) → RangedScripts scripts → length scripts ≡ boot.cpus → SoundCalls (state_in boot.ram) boot.calls → Legal boot scripts entries → AcceptedOnce boot entries
+accepted_once boot scripts entries ranged cpus sound legal = record {
+  sound = legal-sound boot scripts [] entries ranged tt (rw (append-nil boot.calls) sound) legal;
+  apart = λ before later is. (legal-apart boot scripts [] before ranged cpus tt (apart-start boot) (legal-front boot scripts [] before later (let P : List Entry → Type 0 = Legal boot scripts in subst P is legal))).apart;
 }

@@ -9,7 +9,10 @@ use Rattle.event_core.specs.declared.entry.Entry.{Entry}
 use Rattle.event_core.specs.Calls.{calls_in, calls_of}
 use Rattle.event_core.specs.MemoryRows.{AcceptsUnits}
 use Rattle.event_core.specs.Moved.{Moved, entries_of, made_by}
-use Rattle.event_core.specs.Own.{replied}
+use Rattle.event_core.specs.ConvertRows.{Converts}
+use Rattle.event_core.specs.Pool.{area_of_offset}
+use Rattle.event_core.specs.PoolBytes.{bytes_moved}
+use Rattle.event_core.specs.Own.{replied, script_of, own_of}
 use Rattle.event_core.specs.Next.{next_step}
 
 -- Which histories are right. An entry is judged over two lists alone: those of its processor, and the bare ones of its place.
@@ -30,10 +33,6 @@ abbrev pub at_place : Place → List Moved → List Moved
 at_place place.Memory history = map bare (filter (λ (m : Moved). same_place place.Memory m.entry.place) history)
 at_place (place.Area a) history = map bare (filter (λ (m : Moved). same_place (place.Area a) m.entry.place) history)
 at_place place.Own history = []
-
--- the area in which an offset from the pool's start lies
-abbrev pub area_of_offset : Boot → ℕ → ℕ
-area_of_offset boot off = off / (2048 * (boot.slots / boot.areas))
 
 -- where an event takes place
 abbrev pub place_of : Boot → Event → Place
@@ -56,16 +55,16 @@ place_of boot (event.DeviceWrote run off len) = place.Area run.area
 place_of boot (event.HostRead off len) = place.Area (area_of_offset boot off)
 place_of boot (event.HostWrote off len) = place.Area (area_of_offset boot off)
 
--- the module's answers in an event are those of the steps that it stands for; conversions have none yet
+-- the module's answers in an event are those of the steps that it stands for
 abbrev pub CallsFit : Boot → List Entry → Event → Type 0
 CallsFit boot memory (event.Report run calls stopped next) = AcceptsUnits boot (calls_of boot memory) run calls
-CallsFit boot memory (event.ConvertEnd block calls end) = ⊥
+CallsFit boot memory (event.ConvertEnd block calls end) = Converts boot memory block calls
 CallsFit boot memory _ = Unit {0}
 
 -- an entry follows its processor's entries and those of its place
 pub record FollowsOver (boot : Boot) (scripts : List (List Command)) (own there : List Moved) (entry : Entry) : Type 0 where
   pub number : entry.cmd ≡ replied own
-  pub step : next_step boot scripts entry.cpu.0 own (entries_of there) (calls_in entry.event) ≡ Some (record { event = entry.event; reply = entry.reply })
+  pub step : next_step boot scripts entry.cpu.0 own there (calls_in entry.event) ≡ Some (record { event = entry.event; reply = entry.reply })
   pub calls : CallsFit boot (entries_of there) entry.event
   pub place : entry.place ≡ place_of boot entry.event
 
@@ -82,24 +81,22 @@ pub record Follows (boot : Boot) (scripts : List (List Command)) (history : List
   pub over : FollowsOver boot scripts (made_by entry.cpu.0 history) (at_place entry.place history) entry
   pub stamp : entry.stamp ≡ stamp_of (made_by entry.cpu.0 history) (at_place entry.place history)
 
--- the bytes that an entry moves into or out of the pool
-abbrev pub bytes_moved : Boot → List Moved → List Moved → Entry → List ℕ
-bytes_moved boot own there entry = []
-
--- an entry with the bytes that it moves after a history
-abbrev pub with_bytes : Boot → List Moved → Entry → Moved
-with_bytes boot history entry = record {
-  entry = entry;
-  bytes = bytes_moved boot (made_by entry.cpu.0 history) (at_place entry.place history) entry;
-}
+-- an entry with the bytes that it moves into or out of the pool, after a history
+abbrev pub with_bytes : Boot → List (List Command) → List Moved → Entry → Moved
+with_bytes boot scripts history entry =
+    let script = script_of scripts entry.cpu.0 in
+    record {
+      entry = entry;
+      bytes = bytes_moved boot script (own_of script (made_by entry.cpu.0 history)) (at_place entry.place history) entry;
+    }
 
 -- entries with the bytes that they move, after a history
-abbrev pub moved_after : Boot → List Moved → List Entry → List Moved
-moved_after boot history [] = history
-moved_after boot history (entry ∷ entries) = moved_after boot (history ++ with_bytes boot history entry ∷ []) entries
+abbrev pub moved_after : Boot → List (List Command) → List Moved → List Entry → List Moved
+moved_after boot scripts history [] = history
+moved_after boot scripts history (entry ∷ entries) = moved_after boot scripts (history ++ with_bytes boot scripts history entry ∷ []) entries
 
-abbrev pub with_moved : Boot → List Entry → List Moved
-with_moved boot entries = moved_after boot [] entries
+abbrev pub with_moved : Boot → List (List Command) → List Entry → List Moved
+with_moved boot scripts entries = moved_after boot scripts [] entries
 
 -- an entry comes before another by stamp, and of one stamp by processor
 abbrev pub ComesBefore : Entry → Entry → Type 0
@@ -111,7 +108,7 @@ LegalAfter boot scripts history [] = Unit {0}
 LegalAfter boot scripts history (entry ∷ entries) =
     Follows boot scripts history entry
     × All (λ (m : Moved). ComesBefore m.entry entry) history
-    × LegalAfter boot scripts (history ++ with_bytes boot history entry ∷ []) entries
+    × LegalAfter boot scripts (history ++ with_bytes boot scripts history entry ∷ []) entries
 
 abbrev pub Legal : Boot → List (List Command) → List Entry → Type 0
 Legal boot scripts entries = LegalAfter boot scripts [] entries
@@ -119,4 +116,4 @@ Legal boot scripts entries = LegalAfter boot scripts [] entries
 -- a legal history in which every command of every script has its reply
 pub record Whole (boot : Boot) (scripts : List (List Command)) (entries : List Entry) : Type 0 where
   pub legal : Legal boot scripts entries
-  pub all : (cpu : ℕ) (script : List Command) → slice_get scripts cpu ≡ Some script → replied (made_by cpu (with_moved boot entries)) ≡ length script
+  pub all : (cpu : ℕ) (script : List Command) → slice_get scripts cpu ≡ Some script → replied (made_by cpu (with_moved boot scripts entries)) ≡ length script

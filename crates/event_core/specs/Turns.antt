@@ -2,7 +2,7 @@ use Rattle.std.specs.Prelude.{ℕ, zero, suc, List, [], ◌∷◌, ◌++◌, Boo
 use Rattle.event_core.specs.declared.boot.Boot.{Boot}
 use Rattle.event_core.specs.declared.command.Command.{Command}
 use Rattle.event_core.specs.declared.entry.Entry.{Entry}
-use Rattle.event_core.specs.Moved.{Moved, entries_of, made_by}
+use Rattle.event_core.specs.Moved.{Moved, made_by}
 use Rattle.event_core.specs.Next.{next_step}
 use Rattle.event_core.specs.Legal.{Follows, with_bytes, at_place}
 use Rattle.event_core.specs.declared.entry.Place.TheVariants.{Memory}
@@ -13,7 +13,7 @@ use Rattle.event_core.specs.declared.entry.Place.TheVariants.{Memory}
 -- depend on the module's answers.
 abbrev pub is_idle : Boot → List (List Command) → List Moved → ℕ → Bool
 is_idle boot scripts history cpu =
-    is_none (next_step boot scripts cpu (made_by cpu history) (entries_of (at_place Memory history)) [])
+    is_none (next_step boot scripts cpu (made_by cpu history) (at_place Memory history) [])
 
 -- in an idle turn nothing is taken; in any other the turn's processor makes an entry that follows those taken before it
 abbrev pub TakenIn : Boot → List (List Command) → List Moved → List ℕ → List Entry → Type 0
@@ -25,7 +25,7 @@ TakenIn boot scripts history (cpu ∷ turns) (entry ∷ taken) =
       | false ↦
           (entry.cpu.0 ≡ cpu)
           × Follows boot scripts history entry
-          × TakenIn boot scripts (history ++ with_bytes boot history entry ∷ []) turns taken
+          × TakenIn boot scripts (history ++ with_bytes boot scripts history entry ∷ []) turns taken
     ]
 
 -- so many numbers from one on

@@ -10,6 +10,7 @@ use Rattle.event_core.specs.Units.{guarded, bit_after, first_run, units_cleared}
 use Rattle.event_core.specs.Acceptance.{fits}
 use Rattle.event_core.specs.MemoryRows.{pending_in}
 use Rattle.event_core.specs.Claims.{claim_of, in_the_way}
+use Rattle.event_core.specs.PoolBytes.{bytes_moved}
 use Rattle.event_core.specs.Next.{Step}
 use Rattle.event_core.specs.Legal.{Whole, Follows, with_moved, ComesBefore}
 use Rattle.event_core.specs.Moved.{Moved, made_by}
@@ -62,7 +63,7 @@ abbrev behind_claim : Units → List Moved
 behind_claim units = record { entry = claimed units; bytes = [] } ∷ []
 
 -- the one script's one command has its reply
-all-replied : (len : ℕ) (units : Units) (calls : List ModuleCall) (count cpu : ℕ) (script : List Command) → slice_get (accepting len) cpu ≡ Some script → replied (made_by cpu (with_moved small_guest (claimed units ∷ reported units calls count ∷ []))) ≡ length script
+all-replied : (len : ℕ) (units : Units) (calls : List ModuleCall) (count cpu : ℕ) (script : List Command) → slice_get (accepting len) cpu ≡ Some script → replied (made_by cpu (with_moved small_guest (accepting len) (claimed units ∷ reported units calls count ∷ []))) ≡ length script
 unfolding script_length
 all-replied len units calls count zero script h = ap script_length h
 all-replied len units calls count (suc cpu) script h = cc
@@ -87,6 +88,7 @@ page-reported = record {
 }
 
 pub page_accepted-whole : Whole small_guest (accepting 4096) (units_accepted_by 1 one_large 1)
+unfolding bytes_moved
 page_accepted-whole = record {
   legal = (page-claimed, none-before _, (page-reported, rising (first_units 1) one_large 1, tt));
   all = all-replied 4096 (first_units 1) one_large 1;
@@ -104,6 +106,7 @@ unit-reported = record {
 }
 
 pub unit_accepted-whole : Whole small_guest (accepting 2097152) (units_accepted_by 2 two_large 2)
+unfolding bytes_moved
 unit_accepted-whole = record {
   legal = (unit-claimed, none-before _, (unit-reported, rising (first_units 2) two_large 2, tt));
   all = all-replied 2097152 (first_units 2) two_large 2;

@@ -17,7 +17,7 @@ use Rattle.event_core.specs.Claims.{Claimed, claim_step, opened, goes_on}
 use Rattle.event_core.specs.Refusals.{refusal_of, memory_range_refusal}
 use Rattle.event_core.specs.MemoryRows.{run_of_claim, report_event, next_run, cleared_by, AcceptsUnits, some_unaccepted}
 use Rattle.event_core.specs.Moved.{entries_of}
-use Rattle.event_core.specs.Own.{replied}
+use Rattle.event_core.specs.Own.{replied, own_of}
 use Rattle.event_core.specs.Next.{Step, next_step, claim_reply, report_reply}
 use Rattle.event_core.specs.Legal.{with_moved, at_place, place_of, CallsFit}
 use Rattle.event_core.proofs.StandingLemmas.{calls_of-push, claim_of-push}
@@ -30,14 +30,14 @@ length-push xs x = length-append xs (x ∷ [])
 
 -- a run goes on by a step
 pub at-push : (boot : Boot) (script : List Command) (entries : List Entry) (number more : ℕ) (claim after : Option Claimed) (table next : ℕ → Option PageState) (set cleared : ℕ → Bool) (s : Step) → At boot script entries number claim table set
-    → next_step boot (script ∷ []) 0 (with_moved boot entries) (entries_of (at_place (place_of boot s.event) (with_moved boot entries))) (calls_in s.event) ≡ Some s
-    → CallsFit boot (entries_of (at_place (place_of boot s.event) (with_moved boot entries))) s.event
+    → next_step boot (script ∷ []) 0 (with_moved boot (script ∷ []) entries) (at_place (place_of boot s.event) (with_moved boot (script ∷ []) entries)) (calls_in s.event) ≡ Some s
+    → CallsFit boot (entries_of (at_place (place_of boot s.event) (with_moved boot (script ∷ []) entries))) s.event
     → claim_step boot (calls_of boot entries) claim s.event ≡ after
     → Stands boot (calls_of boot entries ++ calls_in s.event) next cleared
     → number + cond (is_some s.reply) 1 0 ≡ more
     → At boot script (entries ++ made_entry boot entries number s ∷ []) more after next cleared
 at-push boot script entries number more claim after table next set cleared s at step fits claimed stands is =
-    let entry = entry_for (length entries) (replied (with_moved boot entries)) boot s in
+    let entry = entry_for (length entries) (replied (with_moved boot (script ∷ []) entries)) boot s in
     let same : entry ≡ made_entry boot entries number s = ap (λ n. entry_for (length entries) n boot s) at.present in
     let pushed = running-push boot (script ∷ []) entries (length entries) s at.running step fits in
     let size : length (entries ++ entry ∷ []) ≡ length entries + 1 = length-push entries entry in
@@ -47,7 +47,7 @@ at-push boot script entries number more claim after table next set cleared s at 
     subst Q same
     (record {
       running = subst P (sym size) pushed;
-      present = replied-push boot entries entry ∙ ap (λ n. n + cond (is_some s.reply) 1 0) at.present ∙ is;
+      present = replied-push boot (script ∷ []) entries entry ∙ ap (λ n. n + cond (is_some s.reply) 1 0) at.present ∙ is;
       claims = claim_of-push boot entries entry 0 ∙ ap (λ c. claim_step boot (calls_of boot entries) c s.event) at.claims ∙ claimed;
       stands = subst R (sym (calls_of-push boot entries entry)) stands;
       cpus = at.cpus;
@@ -63,9 +63,9 @@ refused_step refusal = record { event = event.Own; reply = Some refusal }
 
 pub at-refused : (boot : Boot) (script : List Command) (entries : List Entry) (number : ℕ) (table : ℕ → Option PageState) (set : ℕ → Bool) (c : Command) (refusal : Reply) → At boot script entries number None table set → slice_get script number ≡ Some c → ((own : _) → refusal_of boot own c ≡ Some refusal) → At boot script (entries ++ made_entry boot entries number (refused_step refusal) ∷ []) (number + 1) None table set
 at-refused boot script entries number table set c refusal at now is =
-    let here : slice_get script (replied (with_moved boot entries)) ≡ Some c = ap (slice_get script) at.present ∙ now in
+    let here : slice_get script (replied (with_moved boot (script ∷ []) entries)) ≡ Some c = ap (slice_get script) at.present ∙ now in
     at-push boot script entries number (number + 1) None None table table set set (refused_step refusal) at
-    (refused-next boot script entries c refusal [] here (is (with_moved boot entries))) tt refl (still boot entries table set at.stands) refl
+    (refused-next boot script entries c refusal [] here (is (own_of script (with_moved boot (script ∷ []) entries)))) tt refl (still boot entries table set at.stands) refl
 
 -- a query
 abbrev pub query_step : Bool → Step
@@ -73,7 +73,7 @@ query_step found = record { event = event.Asked found; reply = Some (reply.Query
 
 pub at-query : (boot : Boot) (script : List Command) (entries : List Entry) (number start len : ℕ) (table : ℕ → Option PageState) (set : ℕ → Bool) (found : Bool) → At boot script entries number None table set → slice_get script number ≡ Some (command.Query start len) → memory_range_refusal start len ≡ None → found ≡ some_unaccepted boot entries (guarded_units boot start len) → At boot script (entries ++ made_entry boot entries number (query_step found) ∷ []) (number + 1) None table set
 at-query boot script entries number start len table set found at now fine is =
-    let here : slice_get script (replied (with_moved boot entries)) ≡ Some (command.Query start len) = ap (slice_get script) at.present ∙ now in
+    let here : slice_get script (replied (with_moved boot (script ∷ []) entries)) ≡ Some (command.Query start len) = ap (slice_get script) at.present ∙ now in
     let placed = running-placed boot (script ∷ []) entries (length entries) at.running in
     at-push boot script entries number (number + 1) None None table table set set (query_step found) at
     (query-next boot script entries start len placed here fine ∙ ap (λ b. Some (query_step b)) (sym is)) tt refl (still boot entries table set at.stands) refl
@@ -87,7 +87,7 @@ number_after number reply = number + cond (is_some reply) 1 0
 
 pub at-claim : (boot : Boot) (script : List Command) (entries : List Entry) (number start len : ℕ) (table : ℕ → Option PageState) (set : ℕ → Bool) (units run : Option Units) → At boot script entries number None table set → slice_get script number ≡ Some (command.Accept start len) → memory_range_refusal start len ≡ None → units ≡ guarded_units boot start len → run ≡ run_of_claim boot entries units → At boot script (entries ++ made_entry boot entries number (claim_made units run) ∷ []) (number_after number (claim_reply run)) (opened None units run (calls_of boot entries)) table set
 at-claim boot script entries number start len table set units run at now fine is_units is_run =
-    let here : slice_get script (replied (with_moved boot entries)) ≡ Some (command.Accept start len) = ap (slice_get script) at.present ∙ now in
+    let here : slice_get script (replied (with_moved boot (script ∷ []) entries)) ≡ Some (command.Accept start len) = ap (slice_get script) at.present ∙ now in
     let placed = running-placed boot (script ∷ []) entries (length entries) at.running in
     at-push boot script entries number (number_after number (claim_reply run)) None (opened None units run (calls_of boot entries)) table table set set (claim_made units run) at
     (claim-next boot script entries start len at.cpus placed here fine at.claims
@@ -101,8 +101,8 @@ report_made boot claim calls cleared = record { event = report_event boot claim 
 pub at-report : (boot : Boot) (script : List Command) (entries : List Entry) (number start len : ℕ) (claim : Claimed) (calls : List ModuleCall) (cleared : ℕ) (table next : ℕ → Option PageState) (set clear : ℕ → Bool) → At boot script entries number (Some claim) table set → slice_get script number ≡ Some (command.Accept start len) → memory_range_refusal start len ≡ None → AcceptsUnits boot (calls_of boot entries) claim.run calls → Stands boot (calls_of boot entries ++ calls) next clear → cleared ≡ cleared_by boot entries claim calls
     → At boot script (entries ++ made_entry boot entries number (report_made boot claim calls cleared) ∷ []) (number_after number (report_made boot claim calls cleared).reply) (goes_on boot (calls_of boot entries) calls (Some claim) (stop_of calls) (next_run boot claim (stop_of calls))) next clear
 at-report boot script entries number start len claim calls cleared table next set clear at now fine accepts stands is =
-    let here : slice_get script (replied (with_moved boot entries)) ≡ Some (command.Accept start len) = ap (slice_get script) at.present ∙ now in
+    let here : slice_get script (replied (with_moved boot (script ∷ []) entries)) ≡ Some (command.Accept start len) = ap (slice_get script) at.present ∙ now in
     let placed = running-placed boot (script ∷ []) entries (length entries) at.running in
     at-push boot script entries number (number_after number (report_made boot claim calls cleared).reply) (Some claim) (goes_on boot (calls_of boot entries) calls (Some claim) (stop_of calls) (next_run boot claim (stop_of calls))) table next set clear (report_made boot claim calls cleared) at
     (report-next boot script entries start len claim calls placed here fine at.claims ∙ ap (λ n. Some (report_made boot claim calls n)) (sym is))
-    (report-fits boot entries claim calls placed accepts) refl stands refl
+    (report-fits boot (script ∷ []) entries claim calls placed accepts) refl stands refl

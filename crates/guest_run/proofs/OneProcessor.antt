@@ -24,7 +24,7 @@ use Rattle.event_core.specs.Acceptance.{stop_of}
 use Rattle.event_core.specs.Units.{guarded_units, units_cleared, bit_after, run_after}
 use Rattle.event_core.specs.Claims.{Claimed, claim_of, in_the_way, claim_meets}
 use Rattle.event_core.specs.Moved.{Moved, entries_of, made_by}
-use Rattle.event_core.specs.Own.{present, replied}
+use Rattle.event_core.specs.Own.{present, replied, own_of}
 use Rattle.event_core.specs.Refusals.{refusal_of, memory_range_refusal}
 use Rattle.event_core.specs.MemoryRows.{run_of_claim, report_event, next_run, cleared_by, AcceptsUnits, some_unaccepted}
 use Rattle.event_core.specs.Next.{Step, next_step, step_of, unrefused_step, refused_or, accept_step, claim_reply, report_reply}
@@ -77,11 +77,11 @@ next-stamp boot moved clock p history =
     omega (arith, own, there)
 
 -- what makes a step that may be made an entry that follows
-pub follows : (boot : Boot) (scripts : List (List Command)) (moved : List Moved) (clock : ℕ) (s : Step) → History boot moved clock → next_step boot scripts 0 moved (entries_of (at_place (place_of boot s.event) moved)) (calls_in s.event) ≡ Some s → CallsFit boot (entries_of (at_place (place_of boot s.event) moved)) s.event → Follows boot scripts moved (entry_for clock (replied moved) boot s)
+pub follows : (boot : Boot) (scripts : List (List Command)) (moved : List Moved) (clock : ℕ) (s : Step) → History boot moved clock → next_step boot scripts 0 moved (at_place (place_of boot s.event) moved) (calls_in s.event) ≡ Some s → CallsFit boot (entries_of (at_place (place_of boot s.event) moved)) s.event → Follows boot scripts moved (entry_for clock (replied moved) boot s)
 follows boot scripts moved clock s history next fits = record {
   over = record {
     number = ap replied (sym (mine-all boot moved history.each));
-    step = ap (λ own. next_step boot scripts 0 own (entries_of (at_place (place_of boot s.event) moved)) (calls_in s.event)) (mine-all boot moved history.each) ∙ next;
+    step = ap (λ own. next_step boot scripts 0 own (at_place (place_of boot s.event) moved) (calls_in s.event)) (mine-all boot moved history.each) ∙ next;
     calls = fits;
     place = refl;
   };
@@ -97,19 +97,19 @@ history-push boot moved clock number s bytes history = record {
 }
 
 -- a legal history goes on by an entry that follows it
-pub legal-push : (boot : Boot) (scripts : List (List Command)) (before : List Moved) (entries : List Entry) (entry : Entry) → LegalAfter boot scripts before entries → Follows boot scripts (moved_after boot before entries) entry → All (λ (m : Moved). ComesBefore m.entry entry) (moved_after boot before entries) → LegalAfter boot scripts before (entries ++ entry ∷ [])
+pub legal-push : (boot : Boot) (scripts : List (List Command)) (before : List Moved) (entries : List Entry) (entry : Entry) → LegalAfter boot scripts before entries → Follows boot scripts (moved_after boot scripts before entries) entry → All (λ (m : Moved). ComesBefore m.entry entry) (moved_after boot scripts before entries) → LegalAfter boot scripts before (entries ++ entry ∷ [])
 legal-push boot scripts before [] entry legal here later = (here, later, tt)
-legal-push boot scripts before (e ∷ entries) entry legal here later = (legal.0, legal.1, legal-push boot scripts (before ++ with_bytes boot before e ∷ []) entries entry legal.2 here later)
+legal-push boot scripts before (e ∷ entries) entry legal here later = (legal.0, legal.1, legal-push boot scripts (before ++ with_bytes boot scripts before e ∷ []) entries entry legal.2 here later)
 
-pub moved-push : (boot : Boot) (before : List Moved) (entries : List Entry) (entry : Entry) → moved_after boot before (entries ++ entry ∷ []) ≡ moved_after boot before entries ++ with_bytes boot (moved_after boot before entries) entry ∷ []
-moved-push boot before [] entry = refl
-moved-push boot before (e ∷ entries) entry = moved-push boot (before ++ with_bytes boot before e ∷ []) entries entry
+pub moved-push : (boot : Boot) (scripts : List (List Command)) (before : List Moved) (entries : List Entry) (entry : Entry) → moved_after boot scripts before (entries ++ entry ∷ []) ≡ moved_after boot scripts before entries ++ with_bytes boot scripts (moved_after boot scripts before entries) entry ∷ []
+moved-push boot scripts before [] entry = refl
+moved-push boot scripts before (e ∷ entries) entry = moved-push boot scripts (before ++ with_bytes boot scripts before e ∷ []) entries entry
 
-pub moved-entries : (boot : Boot) (before : List Moved) (entries : List Entry) → entries_of (moved_after boot before entries) ≡ entries_of before ++ entries
-moved-entries boot before [] = sym (append-nil (entries_of before))
-moved-entries boot before (e ∷ entries) =
-    moved-entries boot (before ++ with_bytes boot before e ∷ []) entries
-    ∙ ap (λ es. es ++ entries) (entries_of-push before (with_bytes boot before e))
+pub moved-entries : (boot : Boot) (scripts : List (List Command)) (before : List Moved) (entries : List Entry) → entries_of (moved_after boot scripts before entries) ≡ entries_of before ++ entries
+moved-entries boot scripts before [] = sym (append-nil (entries_of before))
+moved-entries boot scripts before (e ∷ entries) =
+    moved-entries boot scripts (before ++ with_bytes boot scripts before e ∷ []) entries
+    ∙ ap (λ es. es ++ entries) (entries_of-push before (with_bytes boot scripts before e))
     ∙ append_assoc (entries_of before) (e ∷ []) entries
 
 all-later : (clock : ℕ) (entry : Entry) (moved : List Moved) → clock < entry.stamp → AllByRecursion (λ (m : Moved). m.entry.stamp ≤ clock) moved → All (λ (m : Moved). ComesBefore m.entry entry) moved
@@ -123,57 +123,60 @@ running-start boot scripts = record { legal = tt; history = record { each = tt; 
 
 -- the run goes on by a step that may be made
 pub running-push : (boot : Boot) (scripts : List (List Command)) (entries : List Entry) (clock : ℕ) (s : Step) → Running boot scripts entries clock
-    → next_step boot scripts 0 (with_moved boot entries) (entries_of (at_place (place_of boot s.event) (with_moved boot entries))) (calls_in s.event) ≡ Some s
-    → CallsFit boot (entries_of (at_place (place_of boot s.event) (with_moved boot entries))) s.event
-    → Running boot scripts (entries ++ entry_for clock (replied (with_moved boot entries)) boot s ∷ []) (clock + 1)
+    → next_step boot scripts 0 (with_moved boot scripts entries) (at_place (place_of boot s.event) (with_moved boot scripts entries)) (calls_in s.event) ≡ Some s
+    → CallsFit boot (entries_of (at_place (place_of boot s.event) (with_moved boot scripts entries))) s.event
+    → Running boot scripts (entries ++ entry_for clock (replied (with_moved boot scripts entries)) boot s ∷ []) (clock + 1)
 running-push boot scripts entries clock s run next fits =
-    let entry = entry_for clock (replied (with_moved boot entries)) boot s in
-    let here = follows boot scripts (with_moved boot entries) clock s run.history next fits in
+    let entry = entry_for clock (replied (with_moved boot scripts entries)) boot s in
+    let here = follows boot scripts (with_moved boot scripts entries) clock s run.history next fits in
     let P : List Moved → Type 0 = λ moved. History boot moved (clock + 1) in
     record {
-      legal = legal-push boot scripts [] entries entry run.legal here (all-later clock entry (with_moved boot entries) (omega arith) run.history.stamps);
-      history = subst P (sym (moved-push boot [] entries entry)) (history-push boot (with_moved boot entries) clock (replied (with_moved boot entries)) s _ run.history);
+      legal = legal-push boot scripts [] entries entry run.legal here (all-later clock entry (with_moved boot scripts entries) (omega arith) run.history.stamps);
+      history = subst P (sym (moved-push boot scripts [] entries entry)) (history-push boot (with_moved boot scripts entries) clock (replied (with_moved boot scripts entries)) s _ run.history);
     }
 
 -- ---- the steps of the present command
 
 -- the memory's entries in a history
-abbrev pub there : Boot → List Entry → List Entry
-there boot entries = entries_of (at_place place.Memory (with_moved boot entries))
+abbrev pub there_moved : Boot → List (List Command) → List Entry → List Moved
+there_moved boot scripts entries = at_place place.Memory (with_moved boot scripts entries)
+
+abbrev pub there : Boot → List (List Command) → List Entry → List Entry
+there boot scripts entries = entries_of (there_moved boot scripts entries)
 
 -- a history of entries that stand where their events take place
-abbrev pub Placed : Boot → List Entry → Type 0
-Placed boot entries = AllByRecursion (IsPlaced boot) (with_moved boot entries)
+abbrev pub Placed : Boot → List (List Command) → List Entry → Type 0
+Placed boot scripts entries = AllByRecursion (IsPlaced boot) (with_moved boot scripts entries)
 
-pub running-placed : (boot : Boot) (scripts : List (List Command)) (entries : List Entry) (clock : ℕ) → Running boot scripts entries clock → Placed boot entries
-running-placed boot scripts entries clock run = placed-all boot (with_moved boot entries) run.history.each
+pub running-placed : (boot : Boot) (scripts : List (List Command)) (entries : List Entry) (clock : ℕ) → Running boot scripts entries clock → Placed boot scripts entries
+running-placed boot scripts entries clock run = placed-all boot (with_moved boot scripts entries) run.history.each
 
-there-claim : (boot : Boot) (entries : List Entry) (cpu : ℕ) → Placed boot entries → claim_of boot (there boot entries) cpu ≡ claim_of boot entries cpu
-there-claim boot entries cpu placed = claim_of-memory boot cpu (with_moved boot entries) placed ∙ ap (λ es. claim_of boot es cpu) (moved-entries boot [] entries)
+there-claim : (boot : Boot) (scripts : List (List Command)) (entries : List Entry) (cpu : ℕ) → Placed boot scripts entries → claim_of boot (there boot scripts entries) cpu ≡ claim_of boot entries cpu
+there-claim boot scripts entries cpu placed = claim_of-memory boot cpu (with_moved boot scripts entries) placed ∙ ap (λ es. claim_of boot es cpu) (moved-entries boot scripts [] entries)
 
-there-calls : (boot : Boot) (entries : List Entry) → Placed boot entries → calls_of boot (there boot entries) ≡ calls_of boot entries
-there-calls boot entries placed = calls_of-memory boot (with_moved boot entries) placed ∙ ap (calls_of boot) (moved-entries boot [] entries)
+there-calls : (boot : Boot) (scripts : List (List Command)) (entries : List Entry) → Placed boot scripts entries → calls_of boot (there boot scripts entries) ≡ calls_of boot entries
+there-calls boot scripts entries placed = calls_of-memory boot (with_moved boot scripts entries) placed ∙ ap (calls_of boot) (moved-entries boot scripts [] entries)
 
-there-run : (boot : Boot) (entries : List Entry) (units : Option Units) → Placed boot entries → run_of_claim boot (there boot entries) units ≡ run_of_claim boot entries units
-there-run boot entries None placed = refl
-there-run boot entries (Some units) placed = ap (λ calls. run_after boot calls units units.first) (there-calls boot entries placed)
+there-run : (boot : Boot) (scripts : List (List Command)) (entries : List Entry) (units : Option Units) → Placed boot scripts entries → run_of_claim boot (there boot scripts entries) units ≡ run_of_claim boot entries units
+there-run boot scripts entries None placed = refl
+there-run boot scripts entries (Some units) placed = ap (λ calls. run_after boot calls units units.first) (there-calls boot scripts entries placed)
 
-there-cleared : (boot : Boot) (entries : List Entry) (claim : Claimed) (calls : List ModuleCall) → Placed boot entries → cleared_by boot (there boot entries) claim calls ≡ cleared_by boot entries claim calls
-there-cleared boot entries claim calls placed = ap (λ before. claim.cleared + units_cleared boot before (before ++ calls) claim.run) (there-calls boot entries placed)
+there-cleared : (boot : Boot) (scripts : List (List Command)) (entries : List Entry) (claim : Claimed) (calls : List ModuleCall) → Placed boot scripts entries → cleared_by boot (there boot scripts entries) claim calls ≡ cleared_by boot entries claim calls
+there-cleared boot scripts entries claim calls placed = ap (λ before. claim.cleared + units_cleared boot before (before ++ calls) claim.run) (there-calls boot scripts entries placed)
 
 -- the present command of the one script
 pub present-is : (script : List Command) (own : List Moved) (c : Command) → slice_get script (replied own) ≡ Some c → present (script ∷ []) 0 own ≡ Some c
 present-is script own c h = h
 
 -- a step that isn't refused is the command's
-step-is : (boot : Boot) (script : List Command) (own : List Moved) (memory : List Entry) (c : Command) (calls : List ModuleCall) → slice_get script (replied own) ≡ Some c → refusal_of boot own c ≡ None → next_step boot (script ∷ []) 0 own memory calls ≡ unrefused_step boot 0 own memory c calls
+step-is : (boot : Boot) (script : List Command) (own memory : List Moved) (c : Command) (calls : List ModuleCall) → slice_get script (replied own) ≡ Some c → refusal_of boot (own_of script own) c ≡ None → next_step boot (script ∷ []) 0 own memory calls ≡ unrefused_step boot 0 (own_of script own) memory c calls
 step-is boot script own memory c calls now fine =
-    ap (option_and_then (λ command. step_of boot 0 own memory command calls)) now ∙ ap (λ r. refused_or r (unrefused_step boot 0 own memory c calls)) fine
+    ap (option_and_then (λ command. step_of boot 0 (own_of script own) memory command calls)) now ∙ ap (λ r. refused_or r (unrefused_step boot 0 (own_of script own) memory c calls)) fine
 
 -- a refused command ends by itself
-pub refused-next : (boot : Boot) (script : List Command) (entries : List Entry) (c : Command) (refusal : Reply) (memory : List Entry) → slice_get script (replied (with_moved boot entries)) ≡ Some c → refusal_of boot (with_moved boot entries) c ≡ Some refusal → next_step boot (script ∷ []) 0 (with_moved boot entries) memory [] ≡ Some (record { event = event.Own; reply = Some refusal })
+pub refused-next : (boot : Boot) (script : List Command) (entries : List Entry) (c : Command) (refusal : Reply) (memory : List Moved) → slice_get script (replied (with_moved boot (script ∷ []) entries)) ≡ Some c → refusal_of boot (own_of script (with_moved boot (script ∷ []) entries)) c ≡ Some refusal → next_step boot (script ∷ []) 0 (with_moved boot (script ∷ []) entries) memory [] ≡ Some (record { event = event.Own; reply = Some refusal })
 refused-next boot script entries c refusal memory now is =
-    ap (option_and_then (λ command. step_of boot 0 (with_moved boot entries) memory command [])) now ∙ ap (λ r. refused_or r (unrefused_step boot 0 (with_moved boot entries) memory c [])) is
+    ap (option_and_then (λ command. step_of boot 0 (own_of script (with_moved boot (script ∷ []) entries)) memory command [])) now ∙ ap (λ r. refused_or r (unrefused_step boot 0 (own_of script (with_moved boot (script ∷ []) entries)) memory c [])) is
 
 -- nothing is in the way where the one processor has no claim
 no-claim-meets : (units : Units) → claim_meets units None ≡ false
@@ -188,49 +191,49 @@ clear-way boot memory (Some units) one free =
     })
 
 -- an acceptance claims its guarded units
-pub claim-next : (boot : Boot) (script : List Command) (entries : List Entry) (start len : ℕ) → boot.cpus ≡ 1 → Placed boot entries → slice_get script (replied (with_moved boot entries)) ≡ Some (command.Accept start len) → memory_range_refusal start len ≡ None → claim_of boot entries 0 ≡ None
-    → next_step boot (script ∷ []) 0 (with_moved boot entries) (there boot entries) [] ≡ Some (record { event = event.Claim None (guarded_units boot start len) (run_of_claim boot entries (guarded_units boot start len)); reply = claim_reply (run_of_claim boot entries (guarded_units boot start len)) })
+pub claim-next : (boot : Boot) (script : List Command) (entries : List Entry) (start len : ℕ) → boot.cpus ≡ 1 → Placed boot (script ∷ []) entries → slice_get script (replied (with_moved boot (script ∷ []) entries)) ≡ Some (command.Accept start len) → memory_range_refusal start len ≡ None → claim_of boot entries 0 ≡ None
+    → next_step boot (script ∷ []) 0 (with_moved boot (script ∷ []) entries) (there_moved boot (script ∷ []) entries) [] ≡ Some (record { event = event.Claim None (guarded_units boot start len) (run_of_claim boot entries (guarded_units boot start len)); reply = claim_reply (run_of_claim boot entries (guarded_units boot start len)) })
 claim-next boot script entries start len one placed now fine free =
     let units = guarded_units boot start len in
-    let memory = there boot entries in
-    let none : claim_of boot memory 0 ≡ None = there-claim boot entries 0 placed ∙ free in
-    step-is boot script (with_moved boot entries) memory (command.Accept start len) [] now fine
+    let memory = there boot (script ∷ []) entries in
+    let none : claim_of boot memory 0 ≡ None = there-claim boot (script ∷ []) entries 0 placed ∙ free in
+    step-is boot script (with_moved boot (script ∷ []) entries) (there_moved boot (script ∷ []) entries) (command.Accept start len) [] now fine
     ∙ ap (λ claim. accept_step boot memory claim units []) none
     ∙ ap (option_map (λ e. let s : Step = record { event = e; reply = claim_reply (run_of_claim boot memory units) } in s))
     (ap (λ way. elim way as (λ _. Option Event) [ None ↦ Some (event.Claim None units (run_of_claim boot memory units)) | Some _ ↦ None ]) (clear-way boot memory units one none))
-    ∙ ap (λ run. Some (let s : Step = record { event = event.Claim None units run; reply = claim_reply run } in s)) (there-run boot entries units placed)
+    ∙ ap (λ run. Some (let s : Step = record { event = event.Claim None units run; reply = claim_reply run } in s)) (there-run boot (script ∷ []) entries units placed)
 
 -- and reports each run
-pub report-next : (boot : Boot) (script : List Command) (entries : List Entry) (start len : ℕ) (claim : Claimed) (calls : List ModuleCall) → Placed boot entries → slice_get script (replied (with_moved boot entries)) ≡ Some (command.Accept start len) → memory_range_refusal start len ≡ None → claim_of boot entries 0 ≡ Some claim
-    → next_step boot (script ∷ []) 0 (with_moved boot entries) (there boot entries) calls ≡ Some (record { event = report_event boot claim calls; reply = report_reply (stop_of calls) (next_run boot claim (stop_of calls)) (cleared_by boot entries claim calls) })
+pub report-next : (boot : Boot) (script : List Command) (entries : List Entry) (start len : ℕ) (claim : Claimed) (calls : List ModuleCall) → Placed boot (script ∷ []) entries → slice_get script (replied (with_moved boot (script ∷ []) entries)) ≡ Some (command.Accept start len) → memory_range_refusal start len ≡ None → claim_of boot entries 0 ≡ Some claim
+    → next_step boot (script ∷ []) 0 (with_moved boot (script ∷ []) entries) (there_moved boot (script ∷ []) entries) calls ≡ Some (record { event = report_event boot claim calls; reply = report_reply (stop_of calls) (next_run boot claim (stop_of calls)) (cleared_by boot entries claim calls) })
 report-next boot script entries start len claim calls placed now fine has =
     let units = guarded_units boot start len in
-    let memory = there boot entries in
-    step-is boot script (with_moved boot entries) memory (command.Accept start len) calls now fine
-    ∙ ap (λ c. accept_step boot memory c units calls) (there-claim boot entries 0 placed ∙ has)
-    ∙ ap (λ cleared. Some (let s : Step = record { event = report_event boot claim calls; reply = report_reply (stop_of calls) (next_run boot claim (stop_of calls)) cleared } in s)) (there-cleared boot entries claim calls placed)
+    let memory = there boot (script ∷ []) entries in
+    step-is boot script (with_moved boot (script ∷ []) entries) (there_moved boot (script ∷ []) entries) (command.Accept start len) calls now fine
+    ∙ ap (λ c. accept_step boot memory c units calls) (there-claim boot (script ∷ []) entries 0 placed ∙ has)
+    ∙ ap (λ cleared. Some (let s : Step = record { event = report_event boot claim calls; reply = report_reply (stop_of calls) (next_run boot claim (stop_of calls)) cleared } in s)) (there-cleared boot (script ∷ []) entries claim calls placed)
 
 -- the calls of a run fit, over the memory's entries too
-pub report-fits : (boot : Boot) (entries : List Entry) (claim : Claimed) (calls : List ModuleCall) → Placed boot entries → AcceptsUnits boot (calls_of boot entries) claim.run calls → CallsFit boot (there boot entries) (report_event boot claim calls)
-report-fits boot entries claim calls placed accepts = let P : List ModuleCall → Type 0 = λ before. AcceptsUnits boot before claim.run calls in subst P (sym (there-calls boot entries placed)) accepts
+pub report-fits : (boot : Boot) (scripts : List (List Command)) (entries : List Entry) (claim : Claimed) (calls : List ModuleCall) → Placed boot scripts entries → AcceptsUnits boot (calls_of boot entries) claim.run calls → CallsFit boot (there boot scripts entries) (report_event boot claim calls)
+report-fits boot scripts entries claim calls placed accepts = let P : List ModuleCall → Type 0 = λ before. AcceptsUnits boot before claim.run calls in subst P (sym (there-calls boot scripts entries placed)) accepts
 
-there-unaccepted : (boot : Boot) (entries : List Entry) (units : Option Units) → Placed boot entries → some_unaccepted boot (there boot entries) units ≡ some_unaccepted boot entries units
+there-unaccepted : (boot : Boot) (scripts : List (List Command)) (entries : List Entry) (units : Option Units) → Placed boot scripts entries → some_unaccepted boot (there boot scripts entries) units ≡ some_unaccepted boot entries units
 unfolding some_unaccepted
-there-unaccepted boot entries None placed = refl
-there-unaccepted boot entries (Some units) placed = ap (λ calls. any_such (bit_after boot calls) units.first units.count) (there-calls boot entries placed)
+there-unaccepted boot scripts entries None placed = refl
+there-unaccepted boot scripts entries (Some units) placed = ap (λ calls. any_such (bit_after boot calls) units.first units.count) (there-calls boot scripts entries placed)
 
 -- a query tells whether a bit is set
-pub query-next : (boot : Boot) (script : List Command) (entries : List Entry) (start len : ℕ) → Placed boot entries → slice_get script (replied (with_moved boot entries)) ≡ Some (command.Query start len) → memory_range_refusal start len ≡ None
-    → next_step boot (script ∷ []) 0 (with_moved boot entries) (there boot entries) [] ≡ Some (record { event = event.Asked (some_unaccepted boot entries (guarded_units boot start len)); reply = Some (reply.Query (some_unaccepted boot entries (guarded_units boot start len))) })
+pub query-next : (boot : Boot) (script : List Command) (entries : List Entry) (start len : ℕ) → Placed boot (script ∷ []) entries → slice_get script (replied (with_moved boot (script ∷ []) entries)) ≡ Some (command.Query start len) → memory_range_refusal start len ≡ None
+    → next_step boot (script ∷ []) 0 (with_moved boot (script ∷ []) entries) (there_moved boot (script ∷ []) entries) [] ≡ Some (record { event = event.Asked (some_unaccepted boot entries (guarded_units boot start len)); reply = Some (reply.Query (some_unaccepted boot entries (guarded_units boot start len))) })
 query-next boot script entries start len placed now fine =
     let units = guarded_units boot start len in
-    step-is boot script (with_moved boot entries) (there boot entries) (command.Query start len) [] now fine
-    ∙ ap (λ found. Some (let s : Step = record { event = event.Asked found; reply = Some (reply.Query found) } in s)) (there-unaccepted boot entries units placed)
+    step-is boot script (with_moved boot (script ∷ []) entries) (there_moved boot (script ∷ []) entries) (command.Query start len) [] now fine
+    ∙ ap (λ found. Some (let s : Step = record { event = event.Asked found; reply = Some (reply.Query found) } in s)) (there-unaccepted boot (script ∷ []) entries units placed)
 
 -- ---- replies
 
 count-push : {A : Type 0} (p : A → Bool) (xs : List A) (x : A) → count_by p (xs ++ x ∷ []) ≡ count_by p xs + cond (p x) 1 0
 count-push p xs x = fold-append (λ n y. n + cond (p y) 1 0) 0 xs (x ∷ [])
 
-pub replied-push : (boot : Boot) (entries : List Entry) (entry : Entry) → replied (with_moved boot (entries ++ entry ∷ [])) ≡ replied (with_moved boot entries) + cond (is_some entry.reply) 1 0
-replied-push boot entries entry = ap replied (moved-push boot [] entries entry) ∙ count-push (λ (m : Moved). is_some m.entry.reply) (with_moved boot entries) (with_bytes boot (with_moved boot entries) entry)
+pub replied-push : (boot : Boot) (scripts : List (List Command)) (entries : List Entry) (entry : Entry) → replied (with_moved boot scripts (entries ++ entry ∷ [])) ≡ replied (with_moved boot scripts entries) + cond (is_some entry.reply) 1 0
+replied-push boot scripts entries entry = ap replied (moved-push boot scripts [] entries entry) ∙ count-push (λ (m : Moved). is_some m.entry.reply) (with_moved boot scripts entries) (with_bytes boot scripts (with_moved boot scripts entries) entry)

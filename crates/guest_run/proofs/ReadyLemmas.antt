@@ -15,6 +15,7 @@ use Rattle.event_core.specs.declared.event.Event.TheVariants as event
 use Rattle.event_core.specs.declared.entry.Entry.{Entry}
 use Rattle.event_core.specs.declared.reply.Reply.{Reply}
 use Rattle.event_core.specs.Moved.{Moved}
+use Rattle.event_core.specs.Holdings.{Own}
 use Rattle.event_core.specs.Refusals.{refusal_of, memory_range_refusal}
 use Rattle.event_core.specs.Calls.{calls_of, calls_in}
 use Rattle.event_core.specs.Acceptance.{stop_of}
@@ -178,7 +179,7 @@ calls-kept : (p : Processor) (made : List ModuleCall) (number : ℕ) (s : Step) 
 calls-kept p made number s none is =
     is ∙ sym (calls_of-push p.boot p.entries (made_entry p.boot p.entries number s) ∙ ap (λ calls. calls_of p.boot p.entries ++ calls) none ∙ append-nil (calls_of p.boot p.entries))
 
-pub ready-refused : (p : Processor) (number : ℕ) (made : List ModuleCall) (c : Command) (refusal : Reply) → Ready p number made → slice_get p.script number ≡ Some c → ((own : List Moved) → refusal_of p.boot own c ≡ Some refusal) → Ready (with_entry p p.memory number (refused_step refusal)) (number + 1) made
+pub ready-refused : (p : Processor) (number : ℕ) (made : List ModuleCall) (c : Command) (refusal : Reply) → Ready p number made → slice_get p.script number ≡ Some c → ((own : Own) → refusal_of p.boot own c ≡ Some refusal) → Ready (with_entry p p.memory number (refused_step refusal)) (number + 1) made
 ready-refused p number made c refusal ready now is = record {
   at = at-refused p.boot p.script p.entries number (table_of p.memory) (bits_in p.memory.bits) c refusal ready.at now is;
   kept = ready.kept;

@@ -5,7 +5,7 @@ use Rattle.std.specs.List.{filter_map, flat_map, AllByRecursion}
 use Rattle.std.proofs.Math.Path.{fun_ext}
 use Rattle.std.proofs.lemmas.Bool.{cases_Bool, cases_lt}
 use Rattle.std.proofs.lemmas.Bool.Decides.{nat_tests}
-use Rattle.std.proofs.lemmas.List.Elements.{filter_map-append, filter-append, All-tail}
+use Rattle.std.proofs.lemmas.List.Elements.{filter_map-append, filter-append, All-tail, recursion_from_All}
 use Rattle.guest_base.specs.declared.memory.PageRun.{PageRun}
 use Rattle.guest_base.specs.declared.memory.HostRun.{HostRun}
 use Rattle.event_core.specs.declared.boot.Descriptor.{Descriptor}
@@ -25,10 +25,12 @@ use Rattle.event_core.specs.Next.{Step, next_step}
 use Rattle.event_core.specs.MemoryRows.{page_state}
 use Rattle.event_core.specs.Legal.{at_place, with_bytes, moved_after, LegalAfter, Legal, Whole}
 use Rattle.event_core.specs.Turns.{numbers_from}
-use Rattle.event_core.specs.Printed.{replies_by_processor}
+use Rattle.event_core.specs.Printed.{replies_by_processor, replies_of_cpu}
 use Rattle.event_core.specs.Texts.{run_text}
 use Rattle.guest_boot.proofs.MapLemmas.{first_none}
 use Rattle.guest_io.specs.Writing.{appended}
+use Rattle.event_core.specs.RangedScripts.{IsRanged, RangedScripts}
+use Rattle.guest_run.specs.First.{IsFirstCommand}
 use Rattle.guest_run.specs.Recordings.{PrintedAfter, History}
 use Rattle.event_core.specs.AcceptedOnce.{AcceptedOnce}
 use Rattle.event_core.proofs.SoundLemmas.{accepted_once}
@@ -37,36 +39,33 @@ use Rattle.guest_run.specs.Replies.{reply_by, replies_of, replies_of_each, port_
 
 -- ---- the replies of a processor
 
-one_reply : (cpu : ℕ) (boot : Boot) (history : List Moved) (entry : Entry) → replies_in (made_by cpu (with_bytes boot history entry ∷ [])) ≡ filter_map (reply_by cpu) (entry ∷ [])
-one_reply cpu boot history entry = elim (cases_Bool (entry.cpu.0 == cpu)) [ inl t ↦ rw t refl | inr f ↦ rw f refl ]
+one_reply : (cpu : ℕ) (entry : Entry) → replies_of_cpu (entry ∷ []) cpu ≡ replies_of cpu (entry ∷ [])
+one_reply cpu entry = elim (cases_Bool (entry.cpu.0 == cpu)) [ inl t ↦ rw t refl | inr f ↦ rw f refl ]
 
-replies-after : (cpu : ℕ) (boot : Boot) (history : List Moved) (entries : List Entry) → replies_in (made_by cpu (moved_after boot history entries)) ≡ replies_in (made_by cpu history) ++ replies_of cpu entries
-replies-after cpu boot history [] = sym (append-nil (replies_in (made_by cpu history)))
-replies-after cpu boot history (entry ∷ entries) =
-    let p : Moved → Bool = λ m. m.entry.cpu.0 == cpu in
-    let m = with_bytes boot history entry in
-    let pushed : replies_in (made_by cpu (history ++ m ∷ [])) ≡ replies_in (made_by cpu history) ++ replies_in (made_by cpu (m ∷ [])) =
-    ap replies_in (filter-append p history (m ∷ [])) ∙ filter_map-append (λ (m : Moved). m.entry.reply) (made_by cpu history) (made_by cpu (m ∷ [])) in
-    replies-after cpu boot (history ++ m ∷ []) entries
-    ∙ ap (λ rs. rs ++ replies_of cpu entries) (pushed ∙ ap (λ rs. replies_in (made_by cpu history) ++ rs) (one_reply cpu boot history entry))
-    ∙ append_assoc (replies_in (made_by cpu history)) (filter_map (reply_by cpu) (entry ∷ [])) (replies_of cpu entries)
-    ∙ ap (λ rs. replies_in (made_by cpu history) ++ rs) (sym (filter_map-append (reply_by cpu) (entry ∷ []) entries))
+replies_same : (cpu : ℕ) (entries : List Entry) → replies_of cpu entries ≡ replies_of_cpu entries cpu
+replies_same cpu [] = refl
+replies_same cpu (entry ∷ entries) =
+    filter_map-append (reply_by cpu) (entry ∷ []) entries
+    ∙ ap (λ rs. rs ++ replies_of cpu entries) (sym (one_reply cpu entry))
+    ∙ ap (λ rs. replies_of_cpu (entry ∷ []) cpu ++ rs) (replies_same cpu entries)
+    ∙ sym (filter_map-append (λ (e : Entry). e.reply) (filter (λ (e : Entry). e.cpu.0 == cpu) (entry ∷ [])) (filter (λ (e : Entry). e.cpu.0 == cpu) entries))
+    ∙ ap (filter_map (λ (e : Entry). e.reply)) (sym (filter-append (λ (e : Entry). e.cpu.0 == cpu) (entry ∷ []) entries))
 
 -- the replies by entries are those of the history
 pub replies_are : (boot : Boot) (entries : List Entry) → replies_of_each boot.cpus entries ≡ replies_by_processor boot entries
-replies_are boot entries = ap (λ (f : ℕ → List Reply). map f (numbers_from 0 boot.cpus)) (fun_ext (λ cpu. sym (replies-after cpu boot [] entries)))
+replies_are boot entries = ap (λ (f : ℕ → List Reply). map f (numbers_from 0 boot.cpus)) (fun_ext (λ cpu. replies_same cpu entries))
 
 -- ---- the calls of the one processor
 
 -- a processor with a step is the one of the one script
-the_one : (boot : Boot) (script : List Command) (cpu : ℕ) (own : List Moved) (there : List Entry) (calls : List ModuleCall) (s : Step) → next_step boot (script ∷ []) cpu own there calls ≡ Some s → cpu ≡ 0
+the_one : (boot : Boot) (script : List Command) (cpu : ℕ) (own there : List Moved) (calls : List ModuleCall) (s : Step) → next_step boot (script ∷ []) cpu own there calls ≡ Some s → cpu ≡ 0
 the_one boot script zero own there calls s h = refl
 the_one boot script (suc cpu) own there calls s h = let no : None ≡ Some s = h in cc
 
 all_mine : (boot : Boot) (script : List Command) (history : List Moved) (entries : List Entry) → LegalAfter boot (script ∷ []) history entries → AllByRecursion (λ (e : Entry). e.cpu.0 ≡ 0) entries
 all_mine boot script history [] legal = tt
 all_mine boot script history (entry ∷ entries) legal =
-    (the_one boot script entry.cpu.0 (made_by entry.cpu.0 history) (entries_of (at_place entry.place history)) (calls_in entry.event) (record { event = entry.event; reply = entry.reply }) legal.0.over.step, all_mine boot script (history ++ with_bytes boot history entry ∷ []) entries legal.2)
+    (the_one boot script entry.cpu.0 (made_by entry.cpu.0 history) (at_place entry.place history) (calls_in entry.event) (record { event = entry.event; reply = entry.reply }) legal.0.over.step, all_mine boot script (history ++ with_bytes boot (script ∷ []) history entry ∷ []) entries legal.2)
 
 kept_mine : (entries : List Entry) → AllByRecursion (λ (e : Entry). e.cpu.0 ≡ 0) entries → filter (λ (e : Entry). e.cpu.0 == 0) entries ≡ entries
 kept_mine [] mine = refl
@@ -152,10 +151,14 @@ runs_within map hosts slots areas cpus boot calls runs rules right sound maximal
           absurd (found_in page runs k d lt (holds_last run page some (omega (arith, some))) (no_state page (find (run_holds page) runs) none))
     ]
 
+-- the one script's commands are about ranges of memory
+pub ranged_one : (script : List Command) (scripts : List (List Command)) → All IsFirstCommand script → scripts ≡ script ∷ [] → RangedScripts scripts
+ranged_one script scripts first one = subst RangedScripts (sym one) (recursion_from_All IsRanged script first, tt)
+
 -- a legal history of one script accepts no page twice, where boot made no call
-pub run_once : (boot : Boot) (script : List Command) (scripts : List (List Command)) (entries : List Entry) → scripts ≡ script ∷ [] → boot.cpus ≡ 1 → boot.calls ≡ [] → Whole boot scripts entries → AcceptedOnce boot entries
-run_once boot script scripts entries one cpus none whole =
-    accepted_once boot scripts entries (ap (λ (s : List (List Command)). length s) one ∙ sym cpus) (rw none tt) whole.legal
+pub run_once : (boot : Boot) (script : List Command) (scripts : List (List Command)) (entries : List Entry) → All IsFirstCommand script → scripts ≡ script ∷ [] → boot.cpus ≡ 1 → boot.calls ≡ [] → Whole boot scripts entries → AcceptedOnce boot entries
+run_once boot script scripts entries first one cpus none whole =
+    accepted_once boot scripts entries (ranged_one script scripts first one) (ap (λ (s : List (List Command)). length s) one ∙ sym cpus) (rw none tt) whole.legal
 
 -- ---- what a run answers
 
@@ -166,14 +169,14 @@ pub turned_ports : {P E : Type 0} (made : P → List ModuleCall) (old : List P) 
 turned_ports made old port script (Ok r) some unmade one whole is = ports_made made old port script r.0 some unmade one whole is
 turned_ports made old port script (Err e) some unmade one whole is = tt
 
-pub once_of : (map : List Descriptor) (hosts : List HostRun) (boot : Boot) (r : Recorded) (script : List Command) → r.boot ≡ boot → r.scripts ≡ script ∷ [] → BootRight map hosts 0 1 1 boot → boot.calls ≡ [] → History [] r → AcceptedOnce r.boot r.entries
-once_of map hosts boot r script is one right none history =
-    run_once r.boot script r.scripts r.entries one (ap (λ (b : Boot). b.cpus) is ∙ right.same_cpus) (ap (λ (b : Boot). b.calls) is ∙ none) history.whole
+pub once_of : (map : List Descriptor) (hosts : List HostRun) (boot : Boot) (r : Recorded) (script : List Command) → All IsFirstCommand script → r.boot ≡ boot → r.scripts ≡ script ∷ [] → BootRight map hosts 0 1 1 boot → boot.calls ≡ [] → History [] r → AcceptedOnce r.boot r.entries
+once_of map hosts boot r script first is one right none history =
+    run_once r.boot script r.scripts r.entries first one (ap (λ (b : Boot). b.cpus) is ∙ right.same_cpus) (ap (λ (b : Boot). b.calls) is ∙ none) history.whole
 
-pub within_of : (map : List Descriptor) (hosts : List HostRun) (boot : Boot) (r : Recorded) (script : List Command) (runs : List PageRun) → MapRules map hosts → r.boot ≡ boot → r.scripts ≡ script ∷ [] → BootRight map hosts 0 1 1 boot → boot.calls ≡ [] → History [] r → AreMaximalRuns (page_state r.boot (calls_of r.boot r.entries)) runs → EndInMemory runs
-within_of map hosts boot r script runs rules is one right none history maximal =
+pub within_of : (map : List Descriptor) (hosts : List HostRun) (boot : Boot) (r : Recorded) (script : List Command) (runs : List PageRun) → All IsFirstCommand script → MapRules map hosts → r.boot ≡ boot → r.scripts ≡ script ∷ [] → BootRight map hosts 0 1 1 boot → boot.calls ≡ [] → History [] r → AreMaximalRuns (page_state r.boot (calls_of r.boot r.entries)) runs → EndInMemory runs
+within_of map hosts boot r script runs first rules is one right none history maximal =
     let B : Boot → Type 0 = BootRight map hosts 0 1 1 in
-    runs_within map hosts 0 1 1 r.boot (calls_of r.boot r.entries) runs rules (subst B (sym is) right) (once_of map hosts boot r script is one right none history).sound maximal
+    runs_within map hosts 0 1 1 r.boot (calls_of r.boot r.entries) runs rules (subst B (sym is) right) (once_of map hosts boot r script first is one right none history).sound maximal
 
 -- a text that was put is the run's
 pub printed_of : {A E : Type 0} (result : Result A E) (r : Recorded) (entries : List Entry) (runs put : List PageRun) (before after : Option (List ℕ)) → entries ≡ r.entries → put ≡ runs → OnOk result (after ≡ appended before (run_text (replies_of_each r.boot.cpus entries) put None)) → OnOk result (AreMaximalRuns (page_state r.boot (calls_of r.boot r.entries)) runs → PrintedAfter r before after)

@@ -27,7 +27,8 @@ use Rattle.event_core.specs.Runs.{AreMaximalRuns, GoesBefore, run_holds, run_end
 use Rattle.event_core.specs.Units.{bit_of, bit_after, guarded_units, unit_first, unit_pages}
 use Rattle.event_core.specs.Claims.{Claimed, claim_of}
 use Rattle.event_core.specs.Moved.{Moved, entries_of, made_by}
-use Rattle.event_core.specs.Own.{replied}
+use Rattle.event_core.specs.Holdings.{Own}
+use Rattle.event_core.specs.Own.{replied, own_of}
 use Rattle.event_core.specs.Refusals.{refusal_of}
 use Rattle.event_core.specs.MemoryRows.{is_pending, run_of_claim}
 use Rattle.event_core.specs.Next.{Step, next_step, step_of, unrefused_step, refused_or, accept_step, claim_reply}
@@ -56,12 +57,12 @@ refused-some : (refusal : Option Reply) (step : Option Step) → is_none step �
 refused-some None step h = h
 refused-some (Some r) step h = refl
 
-unrefused-some : (boot : Boot) (own : List Moved) (memory : List Entry) (c : Command) → boot.cpus ≡ 1 → IsFirstCommand c → is_none (unrefused_step boot 0 own memory c []) ≡ false
-unrefused-some boot own memory (command.Accept start len) one first = accept-some boot memory (claim_of boot memory 0) (guarded_units boot start len) one refl
+unrefused-some : (boot : Boot) (own : Own) (memory : List Moved) (c : Command) → boot.cpus ≡ 1 → IsFirstCommand c → is_none (unrefused_step boot 0 own memory c []) ≡ false
+unrefused-some boot own memory (command.Accept start len) one first = accept-some boot (entries_of memory) (claim_of boot (entries_of memory) 0) (guarded_units boot start len) one refl
 unrefused-some boot own memory (command.Query start len) one first = refl
 unrefused-some boot own memory _ one first = absurd first
 
-step-some : (boot : Boot) (own : List Moved) (memory : List Entry) (c : Command) → boot.cpus ≡ 1 → IsFirstCommand c → is_none (step_of boot 0 own memory c []) ≡ false
+step-some : (boot : Boot) (own : Own) (memory : List Moved) (c : Command) → boot.cpus ≡ 1 → IsFirstCommand c → is_none (step_of boot 0 own memory c []) ≡ false
 step-some boot own memory c one first = refused-some (refusal_of boot own c) _ (unrefused-some boot own memory c one first)
 
 slice_get-all : (P : Command → Type 0) (script : List Command) (n : ℕ) (c : Command) → AllByRecursion P script → slice_get script n ≡ Some c → P c
@@ -69,12 +70,12 @@ slice_get-all P [] n c all is = cc
 slice_get-all P (x ∷ script) zero c all is = (let same : x ≡ c = cc in subst P same all.0)
 slice_get-all P (x ∷ script) (suc n) c all is = slice_get-all P script n c all.1 is
 
-present-some : (boot : Boot) (script : List Command) (own : List Moved) (memory there : List Entry) (calls : List ModuleCall) (c : Option Command) (s : Step) → boot.cpus ≡ 1 → AllByRecursion IsFirstCommand script → slice_get script (replied own) ≡ c → option_and_then (λ x. step_of boot 0 own there x calls) c ≡ Some s → is_none (option_and_then (λ x. step_of boot 0 own memory x []) c) ≡ false
-present-some boot script own memory there calls None s one first is h = cc
-present-some boot script own memory there calls (Some c) s one first is h = step-some boot own memory c one (slice_get-all IsFirstCommand script (replied own) c first is)
+present-some : (boot : Boot) (script : List Command) (number : ℕ) (own : Own) (memory there : List Moved) (calls : List ModuleCall) (c : Option Command) (s : Step) → boot.cpus ≡ 1 → AllByRecursion IsFirstCommand script → slice_get script number ≡ c → option_and_then (λ x. step_of boot 0 own there x calls) c ≡ Some s → is_none (option_and_then (λ x. step_of boot 0 own memory x []) c) ≡ false
+present-some boot script number own memory there calls None s one first is h = cc
+present-some boot script number own memory there calls (Some c) s one first is h = step-some boot own memory c one (slice_get-all IsFirstCommand script number c first is)
 
-pub not-idle : (boot : Boot) (script : List Command) (own : List Moved) (memory there : List Entry) (calls : List ModuleCall) (s : Step) → boot.cpus ≡ 1 → AllByRecursion IsFirstCommand script → next_step boot (script ∷ []) 0 own there calls ≡ Some s → is_none (next_step boot (script ∷ []) 0 own memory []) ≡ false
-not-idle boot script own memory there calls s one first h = present-some boot script own memory there calls (slice_get script (replied own)) s one first refl h
+pub not-idle : (boot : Boot) (script : List Command) (own memory there : List Moved) (calls : List ModuleCall) (s : Step) → boot.cpus ≡ 1 → AllByRecursion IsFirstCommand script → next_step boot (script ∷ []) 0 own there calls ≡ Some s → is_none (next_step boot (script ∷ []) 0 own memory []) ≡ false
+not-idle boot script own memory there calls s one first h = present-some boot script (replied own) (own_of script own) memory there calls (slice_get script (replied own)) s one first refl h
 
 taken-if : (idle : Bool) (A B : Type 0) → idle ≡ false → B → elim idle as (λ _. Type 0) [ true ↦ A | false ↦ B ]
 taken-if true A B h b = cc
@@ -85,10 +86,10 @@ pub taken-one : (boot : Boot) (script : List Command) (history : List Moved) (en
 taken-one boot script history [] one first mine legal = refl
 taken-one boot script history (entry ∷ entries) one first mine legal =
     let own = made_by entry.cpu.0 history in
-    let P : ℕ → Type 0 = λ cpu. next_step boot (script ∷ []) cpu (made_by cpu history) (entries_of (at_place entry.place history)) (calls_in entry.event) ≡ Some (record { event = entry.event; reply = entry.reply }) in
-    let idle = not-idle boot script (made_by 0 history) (entries_of (at_place place.Memory history)) (entries_of (at_place entry.place history)) (calls_in entry.event) (record { event = entry.event; reply = entry.reply }) one first (subst P mine.0 legal.0.over.step) in
+    let P : ℕ → Type 0 = λ cpu. next_step boot (script ∷ []) cpu (made_by cpu history) (at_place entry.place history) (calls_in entry.event) ≡ Some (record { event = entry.event; reply = entry.reply }) in
+    let idle = not-idle boot script (made_by 0 history) (at_place place.Memory history) (at_place entry.place history) (calls_in entry.event) (record { event = entry.event; reply = entry.reply }) one first (subst P mine.0 legal.0.over.step) in
     taken-if (is_idle boot (script ∷ []) history 0) _ _ idle
-    (mine.0, legal.0, taken-one boot script (history ++ with_bytes boot history entry ∷ []) entries one first mine.1 legal.2)
+    (mine.0, legal.0, taken-one boot script (history ++ with_bytes boot (script ∷ []) history entry ∷ []) entries one first mine.1 legal.2)
 
 mine-of : (boot : Boot) (moved : List Moved) → AllByRecursion (IsMine boot) moved → AllByRecursion (λ (e : Entry). e.cpu.0 ≡ 0) (entries_of moved)
 mine-of boot [] all = tt
@@ -101,10 +102,10 @@ turned-one boot script entries number claim table set first at =
       taken = entries;
       same = IsPermutation-refl entries;
       rounds = length entries;
-      turns = taken-one boot script [] entries at.cpus first (subst P (moved-entries boot [] entries) (mine-of boot (with_moved boot entries) at.running.history.each)) at.running.legal;
+      turns = taken-one boot script [] entries at.cpus first (subst P (moved-entries boot (script ∷ []) [] entries) (mine-of boot (with_moved boot (script ∷ []) entries) at.running.history.each)) at.running.legal;
     }
 
-all_replied : (boot : Boot) (script : List Command) (entries : List Entry) (number : ℕ) → replied (made_by 0 (with_moved boot entries)) ≡ number → number ≡ length script → (cpu : ℕ) (s : List Command) → slice_get (script ∷ []) cpu ≡ Some s → replied (made_by cpu (with_moved boot entries)) ≡ length s
+all_replied : (boot : Boot) (script : List Command) (entries : List Entry) (number : ℕ) → replied (made_by 0 (with_moved boot (script ∷ []) entries)) ≡ number → number ≡ length script → (cpu : ℕ) (s : List Command) → slice_get (script ∷ []) cpu ≡ Some s → replied (made_by cpu (with_moved boot (script ∷ []) entries)) ≡ length s
 all_replied boot script entries number done is zero s found = (let same : script ≡ s = cc in done ∙ is ∙ ap length same)
 all_replied boot script entries number done is (suc cpu) s found = cc
 
@@ -112,7 +113,7 @@ all_replied boot script entries number done is (suc cpu) s found = cc
 pub whole-one : (boot : Boot) (script : List Command) (entries : List Entry) (number : ℕ) (claim : Option Claimed) (table : ℕ → Option PageState) (set : ℕ → Bool) → At boot script entries number claim table set → number ≡ length script → Whole boot (script ∷ []) entries
 whole-one boot script entries number claim table set at is = record {
   legal = at.running.legal;
-  all = all_replied boot script entries number (ap replied (mine-all boot (with_moved boot entries) at.running.history.each) ∙ at.present) is;
+  all = all_replied boot script entries number (ap replied (mine-all boot (with_moved boot (script ∷ []) entries) at.running.history.each) ∙ at.present) is;
 }
 
 -- ---- the start

@@ -31,12 +31,12 @@ entry_for clock number boot s = record { stamp = clock + 1; cpu = record { 0 = 0
 -- a legal history of the processor
 pub record Running (boot : Boot) (scripts : List (List Command)) (entries : List Entry) (clock : ℕ) : Type 0 where
   pub legal : Legal boot scripts entries
-  pub history : History boot (with_moved boot entries) clock
+  pub history : History boot (with_moved boot scripts entries) clock
 
 -- A run of one processor between two of its events: its history, the number of its present command, its claim, and what is kept.
 pub record At (boot : Boot) (script : List Command) (entries : List Entry) (number : ℕ) (claim : Option Claimed) (table : ℕ → Option PageState) (set : ℕ → Bool) : Type 0 where
   pub running : Running boot (script ∷ []) entries (length entries)
-  pub present : replied (with_moved boot entries) ≡ number
+  pub present : replied (with_moved boot (script ∷ []) entries) ≡ number
   pub claims : claim_of boot entries 0 ≡ claim
   pub stands : Stands boot (calls_of boot entries) table set
   pub cpus : boot.cpus ≡ 1

@@ -3,7 +3,7 @@ ghost use Rattle.std.specs.Prelude.{◌≡◌, ℕ, List, [], ◌∷◌, ◌++�
 ghost use Rattle.event_core.specs.declared.command.Command.TheVariants.{Accept, Query};
 ghost use Rattle.event_core.specs.declared.command.Command.{Command as CommandValue};
 ghost use Rattle.event_core.specs.declared.module_call.ModuleCall.{ModuleCall};
-ghost use Rattle.event_core.specs.Moved.{Moved};
+ghost use Rattle.event_core.specs.Holdings.{Own};
 ghost use Rattle.guest_run.specs.First.{IsFirstCommand};
 ghost use Rattle.guest_run.specs.RangedCommand.{as_command};
 ghost use Rattle.event_core.specs.Refusals.{memory_range_refusal, refusal_of};
@@ -191,7 +191,7 @@ impl Processor {
     /// Refuses the present command.
     fn refuse(&mut self, number: u32, refusal: Reply) -> Result<(), AllocError>
         requires ready { (made : List ModuleCall) × Ready self.old number made }
-        requires refused { (c : CommandValue) × (slice_get self.old.script number ≡ Some c) × ((own : List Moved) → refusal_of self.old.boot own c ≡ Some refusal) }
+        requires refused { (c : CommandValue) × (slice_get self.old.script number ≡ Some c) × ((own : Own) → refusal_of self.old.boot own c ≡ Some refusal) }
         ensures ready { OnOk result ((made : List ModuleCall) → Ready self.old number made → Ready self.new (number + 1) made) }
         ensures boot { OnOk result (self.new.boot ≡ self.old.boot) }
         ensures script { OnOk result (self.new.script ≡ self.old.script) }
