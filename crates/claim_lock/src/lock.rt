@@ -1,6 +1,7 @@
 //! The lock.
 ghost use Rattle.std.specs.Prelude.{◌≡◌, ◌≢◌, ℕ, ◌+◌, ◌<◌, ◌≤◌, List, [], ◌∷◌, ◌++◌, None, Some, map, All, Any, IfOk, IsTrue, IsFalse, vec_capacity};
 ghost use Rattle.std.specs.List.{range_with_len};
+ghost use Rattle.claim_lock.specs.Lent.{state_of, grip_of};
 ghost use Rattle.claim_lock.specs.Knows.{Finds, MayGive, first_known, left_known, IsOf};
 ghost use Rattle.claim_lock.specs.Rule.{resting, holding, first_of, dealt};
 
@@ -69,8 +70,8 @@ impl<S: Parted> ClaimLock<S> {
     /// a processor below the number of passes.
     pub fn take<R: Wait>(&self, rt: &R, pass: Pass<S>) -> Held<S>
         requires { pass.table ≡ self.now.table }
-        ensures grip { result.grip ≡ record { table = pass.table; known = pass.known; taken = result.state } }
-        ensures state { Finds S.fixed S.part S.moved pass.known result.state }
+        ensures grip { grip_of result ≡ record { table = pass.table; known = pass.known; taken = state_of result } }
+        ensures state { Finds S.fixed S.part S.moved pass.known (state_of result) }
     {
         let Pass { number, mut seat } = pass;
         for _ in rt.forever() {
@@ -122,10 +123,10 @@ impl<S: Parted> ClaimLock<S> {
     /// Gives the lock back, which is this one. Since `take` neither `fixed` nor another processor's part has changed, and
     /// entries were added at the end alone, each of them this processor's.
     pub fn give(&self, held: Held<S>) -> Pass<S>
-        requires lock { held.grip.table ≡ self.now.table }
-        requires state { MayGive S.fixed S.part S.moved held.grip.known.number held.grip.taken held.state }
-        ensures lock { result.table ≡ held.grip.table }
-        ensures known { result.known ≡ left_known S.part S.moved held.grip.known held.grip.taken held.state }
+        requires lock { (grip_of held).table ≡ self.now.table }
+        requires state { MayGive S.fixed S.part S.moved (grip_of held).known.number (grip_of held).taken (state_of held) }
+        ensures lock { result.table ≡ (grip_of held).table }
+        ensures known { result.known ≡ left_known S.part S.moved (grip_of held).known (grip_of held).taken (state_of held) }
     {
         let Held { grip, state } = held;
         let Grip {

@@ -18,3 +18,6 @@ pub use event::{ConvertEnd, Event};
 pub use module_call::{CallKind, Calls, ModuleCall, PortAnswer};
 pub use name::Name;
 pub use reply::{Found, Reply};
+
+#[cfg(test)]
+mod tests;

@@ -9,3 +9,6 @@ mod transfer;
 pub use list::{Bytes, Items};
 pub use memory::{Block, CpuNo, HostRun, Level, Page, PageRun, PageState, Pages, Unit, Units};
 pub use transfer::{Align, Direction, Request, SlotRun};
+
+#[cfg(test)]
+mod tests;

@@ -3,6 +3,8 @@ ghost use Rattle.std.specs.Prelude.{◌≡◌, ◌≢◌, ℕ, ◌+◌, ◌*◌,
 ghost use Rattle.guest_base.specs.Ranges.{InRange, in_range};
 ghost use Rattle.guest_base.specs.Levels.{level_pages};
 
+use crate::limits::PAGE_END;
+
 /// A page's number: its first byte stands at 4,096 times this number.
 #[derive(Clone, Copy, Debug, PartialEq, Eq, PartialOrd, Ord)]
 pub struct Page(pub u64);
@@ -75,13 +77,10 @@ impl Pages {
         ensures some { IfSome result (λ p. (p ≡ record { first = first; count = count }) × (0 < count) × (first + count ≤ 2 ^ 28)) }
         ensures none { IfNone result ((count ≡ 0) ⊎ (2 ^ 28 < first + count)) }
     {
-        if count == 0
-            || first > crate::limits::PAGE_END
-            || count > crate::limits::PAGE_END - first
-        {
-            None
-        } else {
+        if is_range(first, count) {
             Some(Pages { first, count })
+        } else {
+            None
         }
     }
 
@@ -106,13 +105,10 @@ impl Units {
         ensures some { IfSome result (λ u. (u ≡ record { first = first; count = count }) × (0 < count) × (first + count ≤ 2 ^ 28)) }
         ensures none { IfNone result ((count ≡ 0) ⊎ (2 ^ 28 < first + count)) }
     {
-        if count == 0
-            || first > crate::limits::PAGE_END
-            || count > crate::limits::PAGE_END - first
-        {
-            None
-        } else {
+        if is_range(first, count) {
             Some(Units { first, count })
+        } else {
+            None
         }
     }
 
@@ -149,6 +145,13 @@ impl Block {
             count: 1 << self.order,
         }
     }
+}
+
+/// Whether there are any of the `count` numbers from `first` on, and none ends above 2^28.
+fn is_range(first: u64, count: u64) -> bool
+    ensures { IsTrue result ↔ ((0 < count) × (first + count ≤ 2 ^ 28)) }
+{
+    count > 0 && first <= PAGE_END && count <= PAGE_END - first
 }
 
 /// Whether two ranges have a number in common; their ends may lie above every `u64`.
