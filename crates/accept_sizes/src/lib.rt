@@ -6,3 +6,6 @@ mod log;
 
 pub use accept::{RunEnd, accept_run, most_calls};
 pub use log::CallLog;
+
+#[cfg(test)]
+mod tests;

@@ -4,3 +4,6 @@
 mod accepting;
 
 pub use accepting::Accepting;
+
+#[cfg(test)]
+mod tests;

@@ -23,18 +23,18 @@ use Rattle.efi_map.specs.Spelling.{low_bytes, descriptor_bytes, level_number, ho
 
 -- ---- numbers
 
-low_length : (width n : ℕ) → length (low_bytes width n) ≡ width
+pub low_length : (width n : ℕ) → length (low_bytes width n) ≡ width
 unfolding low_bytes
 low_length width n = length-bytes_low_first 0 width n
 
-number_again : (width n : ℕ) (rest : List ℕ) → n < 256 ^ width → number width (low_bytes width n ++ rest) ≡ n
+pub number_again : (width n : ℕ) (rest : List ℕ) → n < 256 ^ width → number width (low_bytes width n ++ rest) ≡ n
 unfolding number low_bytes
 number_again width n rest lt = little_number-reads_back width n rest lt
 
-low_drop : (width n : ℕ) (rest : List ℕ) → drop width (low_bytes width n ++ rest) ≡ rest
+pub low_drop : (width n : ℕ) (rest : List ℕ) → drop width (low_bytes width n ++ rest) ≡ rest
 low_drop width n rest = drop_at (low_bytes width n) rest width (low_length width n)
 
-low_past : (width n k : ℕ) (rest : List ℕ) → drop (width + k) (low_bytes width n ++ rest) ≡ drop k rest
+pub low_past : (width n k : ℕ) (rest : List ℕ) → drop (width + k) (low_bytes width n ++ rest) ≡ drop k rest
 low_past width n k rest = ap (λ (w : ℕ). drop (w + k) (low_bytes width n ++ rest)) (sym (low_length width n)) ∙ drop-append-add (low_bytes width n) rest k
 
 word_again : (size n : ℕ) (rest : List ℕ) → n < 2 ^ 32 → word_at size (low_bytes 4 n ++ rest) ≡ Ok (n, rest)

@@ -105,7 +105,7 @@ kind_below size stride bytes x fits e =
     let g = guard_ok (nat_lt (length bytes) stride) (Short size) made x e in
     subst (λ (y : Descriptor × List ℕ). (y.0.kind < 2 ^ 32) × IsBytes y.1) g.1 (word_below bytes fits, IsBytes-drop stride bytes fits)
 
-unless_ok : {A : Type 0} (fault : Option MapFault) (x y : A) → unless fault x ≡ Ok y → (fault ≡ None) × (x ≡ y)
+pub unless_ok : {A : Type 0} (fault : Option MapFault) (x y : A) → unless fault x ≡ Ok y → (fault ≡ None) × (x ≡ y)
 unless_ok None x y e = (refl, cc)
 unless_ok (Some fault) x y e = absurd cc
 

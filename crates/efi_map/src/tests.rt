@@ -30,24 +30,72 @@ fn writes_a_map(rt: HostRuntime) -> Result<(), Fail> {
     Ok(())
 }
 
+/// A run of pages in a state.
+fn run(first: u64, count: u64, state: PageState) -> PageRun {
+    PageRun {
+        pages: Pages { first, count },
+        state,
+    }
+}
+
 #[test]
 fn finds_ram(rt: HostRuntime) -> Result<(), Fail> {
     let map = read_map(rt.alloc(), &A)?;
     let runs = map.ram(rt.alloc())?;
-    let accepted = PageRun {
-        pages: Pages {
-            first: 0,
-            count: 1024,
-        },
-        state: PageState::Accepted,
-    };
-    let pending = PageRun {
-        pages: Pages {
-            first: 1024,
-            count: 2048,
-        },
-        state: PageState::Pending,
-    };
+    let accepted = run(0, 1024, PageState::Accepted);
+    let pending = run(1024, 2048, PageState::Pending);
+    assert_eq!(rt; runs.as_slice(), [accepted, pending].as_slice());
+    Ok(())
+}
+
+/// The file of a map with these descriptors, each of them a type, a start in bytes and a number of pages.
+fn file(alloc: Global, descriptors: &[(u32, u64, u64)]) -> Result<Vec<u8>, AllocError> {
+    let mut bytes = Vec::from_slice(alloc, &A[..12])?;
+    bytes.extend_from_slice(&(descriptors.len() as u64).to_le_bytes()[..4])?;
+    for (kind, start, pages) in descriptors {
+        bytes.extend_from_slice(&u64::from(*kind).to_le_bytes())?;
+        bytes.extend_from_slice(&start.to_le_bytes())?;
+        bytes.extend_from_slice(&[0; 8])?;
+        bytes.extend_from_slice(&pages.to_le_bytes())?;
+        bytes.extend_from_slice(&[0; 8])?;
+    }
+    bytes.extend_from_slice(&[0; 4])?;
+    Ok(bytes)
+}
+
+#[test]
+fn finds_ram_that_ends_within_a_unit(rt: HostRuntime) -> Result<(), Fail> {
+    let bytes = file(rt.alloc(), &[(7, 0, 1024), (15, 0x40_0000, 1023)])?;
+    let runs = read_map(rt.alloc(), &bytes)?.ram(rt.alloc())?;
+    let accepted = run(0, 1024, PageState::Accepted);
+    let pending = run(1024, 1023, PageState::Pending);
+    assert_eq!(rt; runs.as_slice(), [accepted, pending].as_slice());
+    Ok(())
+}
+
+#[test]
+fn finds_ram_that_begins_within_a_unit(rt: HostRuntime) -> Result<(), Fail> {
+    let bytes = file(rt.alloc(), &[(15, 0x40_1000, 3072)])?;
+    let runs = read_map(rt.alloc(), &bytes)?.ram(rt.alloc())?;
+    assert_eq!(rt;
+        runs.as_slice(),
+        [run(0x401, 3072, PageState::Pending)].as_slice()
+    );
+    Ok(())
+}
+
+#[test]
+fn joins_ram_in_any_order(rt: HostRuntime) -> Result<(), Fail> {
+    let descriptors = [
+        (2, 0x3000, 1),
+        (0, 0x5000, 1),
+        (7, 0x1000, 2),
+        (15, 0x4000, 1),
+    ];
+    let bytes = file(rt.alloc(), &descriptors)?;
+    let runs = read_map(rt.alloc(), &bytes)?.ram(rt.alloc())?;
+    let accepted = run(1, 3, PageState::Accepted);
+    let pending = run(4, 1, PageState::Pending);
     assert_eq!(rt; runs.as_slice(), [accepted, pending].as_slice());
     Ok(())
 }
@@ -62,28 +110,39 @@ fn refuses_each_prefix(rt: HostRuntime) {
     }
 }
 
-/// One reserved descriptor of a page at 0x1000, another that touches it, one that meets both, and two host records.
-fn overlapping(alloc: Global) -> Result<Vec<u8>, AllocError> {
-    let mut bytes = Vec::from_slice(alloc, &A[..12])?;
-    bytes.extend_from_slice(&[3, 0, 0, 0])?;
-    for (start, pages) in [(0x2000u64, 1u64), (0x1000, 1), (0x0000, 3)] {
-        bytes.extend_from_slice(&[0; 8])?;
-        bytes.extend_from_slice(&start.to_le_bytes())?;
-        bytes.extend_from_slice(&[0; 8])?;
-        bytes.extend_from_slice(&pages.to_le_bytes())?;
-        bytes.extend_from_slice(&[0; 8])?;
-    }
-    bytes.extend_from_slice(&[0; 4])?;
-    Ok(bytes)
+/// What reading answers where a file has these descriptors.
+fn fault(alloc: Global, descriptors: &[(u32, u64, u64)]) -> Result<Option<MapFault>, AllocError> {
+    let bytes = file(alloc, descriptors)?;
+    Ok(read_map(alloc, &bytes).err())
 }
 
 #[test]
 fn names_the_first_overlap(rt: HostRuntime) -> Result<(), Fail> {
-    let bytes = overlapping(rt.alloc())?;
-    match read_map(rt.alloc(), &bytes) {
-        Err(fault) => assert_eq!(rt; fault, MapFault::Overlap(0, 2)),
-        Ok(_) => assert!(rt; false),
-    }
+    let touching = [(3, 0x2000, 1), (3, 0x1000, 1), (3, 0x3000, 1)];
+    assert_eq!(rt; fault(rt.alloc(), &touching)?, None);
+    let overlapping = [(3, 0x2000, 1), (3, 0x1000, 1), (3, 0, 3)];
+    assert_eq!(rt;
+        fault(rt.alloc(), &overlapping)?,
+        Some(MapFault::Overlap(0, 2))
+    );
+    let empty = [(3, 0x1000, 0), (3, 0x1000, 2), (3, 0x2000, 1)];
+    assert_eq!(rt; fault(rt.alloc(), &empty)?, Some(MapFault::Overlap(1, 2)));
+    Ok(())
+}
+
+#[test]
+fn refuses_in_order(rt: HostRuntime) -> Result<(), Fail> {
+    let unaligned = [(7, 0x100_0000_0001, 1)];
+    assert_eq!(rt;
+        fault(rt.alloc(), &unaligned)?,
+        Some(MapFault::Unaligned(0))
+    );
+    let high = [(0, 0x100_0000_0000, 1), (7, 0x100_0000_0000, 1)];
+    assert_eq!(rt; fault(rt.alloc(), &high)?, Some(MapFault::TooHigh(1)));
+    let large = [(7, 0, 1 << 24), (0, 1 << 36, 1), (15, 1 << 36, 1)];
+    assert_eq!(rt; fault(rt.alloc(), &large)?, Some(MapFault::Overlap(1, 2)));
+    let much = [(7, 0, 1 << 24), (15, 1 << 36, 1)];
+    assert_eq!(rt; fault(rt.alloc(), &much)?, Some(MapFault::TooMuchRam));
     Ok(())
 }
 

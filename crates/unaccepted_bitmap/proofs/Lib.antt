@@ -2,3 +2,4 @@ pub mod BitLemmas
 pub mod RunLemmas
 pub mod GuardLemmas
 pub mod StubLemmas
+pub mod TableLemmas

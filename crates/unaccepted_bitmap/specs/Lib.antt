@@ -1,2 +1,3 @@
 pub mod BitmapValue
 pub mod StubMap
+pub mod TableFile

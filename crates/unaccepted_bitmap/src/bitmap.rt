@@ -1,11 +1,14 @@
 //! A bitmap of unaccepted units.
-ghost use Rattle.std.specs.Prelude.{◌≡◌, ℕ, ◌+◌, ◌^◌, ◌<◌, ◌≤◌, IfOk, IfSome};
+ghost use Rattle.std.specs.Prelude.{◌≡◌, ℕ, ◌+◌, ◌^◌, ◌<◌, ◌≤◌, Ok, IfOk, IfSome};
 ghost use Rattle.event_core.specs.Units.{unit_count, bit_of, first_run};
 ghost use Rattle.unaccepted_bitmap.specs.BitmapValue.{Bits, IsBitmap, ClearsBits, guarded_in, any_unit};
+ghost use Rattle.event_core.specs.Stub.{default_unit};
+ghost use Rattle.unaccepted_bitmap.specs.TableFile.{table_of, table_bytes_of};
 
 use crate::bytes::{clear_units, run_of_set};
 use crate::guard::guarded_units;
 use crate::stub::{UNIT, stub_bits, unaccepted};
+use crate::table::table_bytes;
 use efi_map::GuestMap;
 use guest_base::{Bytes, Unit, Units};
 use std::alloc::{AllocError, Global};
@@ -52,6 +55,14 @@ impl Bitmap {
         }))
     }
 
+    /// The bitmap with these bytes of a unit, this base in bytes, and these bits.
+    pub(crate) fn from_bits(unit: u64, base: u64, bits: Vec<u8>) -> Bitmap
+        requires { IsBitmap (record { unit = unit; base = base; bits = bits.items }) }
+        ensures { result ≡ record { unit = unit; base = base; bits = bits.items } }
+    {
+        Bitmap { unit, base, bits }
+    }
+
     /// The bytes of a unit.
     pub fn unit(&self) -> u64
         ensures value { result ≡ self.now.unit }
@@ -81,6 +92,14 @@ impl Bitmap {
         ensures { IfOk result (λ bytes. bytes ≡ self.now.bits) }
     {
         Ok(Bytes::from_vec(Vec::from_slice(alloc, self.bits.as_slice())?))
+    }
+
+    /// The unaccepted table of the bitmap. Read again, it gives the bitmap, where a unit is 2 MiB.
+    pub fn table_bytes(&self, alloc: Global) -> Result<Bytes, AllocError>
+        ensures written { IfOk result (λ bytes. bytes ≡ table_bytes_of self.now) }
+        ensures again { self.now.unit ≡ default_unit → IfOk result (λ bytes. table_of bytes ≡ Ok self.now) }
+    {
+        table_bytes(alloc, self.unit, self.base, self.bits.as_slice())
     }
 
     /// The units that an acceptance of the `len` bytes from the address `start` on takes, the guard among them: where the range

@@ -3,11 +3,15 @@
 
 mod bitmap;
 mod bytes;
+mod fault;
 mod guard;
 mod stub;
+mod table;
 
 pub use bitmap::Bitmap;
+pub use fault::TableFault;
 pub use stub::early;
+pub use table::read_table;
 
 #[cfg(test)]
 mod tests;

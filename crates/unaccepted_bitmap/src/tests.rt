@@ -1,6 +1,9 @@
-use crate::{Bitmap, early};
+ghost use Rattle.std.specs.Prelude.{◌<◌};
+
+use crate::{Bitmap, TableFault, early, read_table};
 use efi_map::read_map;
 use guest_base::{PageRun, PageState, Pages, Unit, Units};
+use std::alloc::Global;
 use std::test::Fail;
 
 /// Conventional memory below 4 MiB, and 8 MiB of unaccepted memory behind it.
@@ -19,6 +22,21 @@ const UNALIGNED: [u8; 60] = [
     15, 0, 0, 0, 0, 0, 0, 0, 0, 0x10, 0x40, 0, 0, 0, 0, 0, 0, 0, 0, 0, 0, 0, 0, 0, //
     0, 12, 0, 0, 0, 0, 0, 0, 0, 0, 0, 0, 0, 0, 0, 0, //
     0, 0, 0, 0,
+];
+
+/// Conventional memory below 4 MiB, and 1,023 pages of unaccepted memory behind it, which are less than two units.
+const SHORT: [u8; 100] = [
+    0x47, 0x4d, 0x41, 0x50, 40, 0, 0, 0, 1, 0, 0, 0, 2, 0, 0, 0, //
+    7, 0, 0, 0, 0, 0, 0, 0, 0, 0, 0, 0, 0, 0, 0, 0, 0, 0, 0, 0, 0, 0, 0, 0, //
+    0, 4, 0, 0, 0, 0, 0, 0, 0, 0, 0, 0, 0, 0, 0, 0, //
+    15, 0, 0, 0, 0, 0, 0, 0, 0, 0, 0x40, 0, 0, 0, 0, 0, 0, 0, 0, 0, 0, 0, 0, 0, //
+    0xff, 3, 0, 0, 0, 0, 0, 0, 0, 0, 0, 0, 0, 0, 0, 0, //
+    0, 0, 0, 0,
+];
+
+/// The table of the bitmap of `FOUR_UNITS`: version 1, units of 2 MiB from 4 MiB on, and a byte of bits.
+const FOUR_UNITS_TABLE: [u8; 25] = [
+    1, 0, 0, 0, 0, 0, 0x20, 0, 0, 0, 0x40, 0, 0, 0, 0, 0, 1, 0, 0, 0, 0, 0, 0, 0, 0x0f,
 ];
 
 fn units(first: u64, count: u64) -> Option<Units> {
@@ -62,6 +80,96 @@ fn unaligned_ends(rt: HostRuntime) -> Result<(), Fail> {
     let pieces = [pending(0x401, 0x1ff), pending(0x1000, 1)];
     assert_eq!(rt; early(rt.alloc(), &map)?.as_slice(), pieces.as_slice());
     Ok(())
+}
+
+/// The table of a bitmap of one byte of bits from 4 MiB on.
+fn table_with(bits: u8) -> [u8; 25] {
+    let mut table = FOUR_UNITS_TABLE;
+    table[24] = bits;
+    table
+}
+
+#[test]
+fn short_descriptor(rt: HostRuntime) -> Result<(), Fail> {
+    let map = read_map(rt.alloc(), &SHORT)?;
+    let bitmap = Bitmap::of_map(rt.alloc(), &map)?.ok_or("no bitmap")?;
+    let table = bitmap.table_bytes(rt.alloc())?;
+    assert_eq!(rt; table.as_slice(), table_with(0).as_slice());
+    let pieces = [pending(0x400, 0x3ff)];
+    assert_eq!(rt; early(rt.alloc(), &map)?.as_slice(), pieces.as_slice());
+    Ok(())
+}
+
+#[test]
+fn writes_a_table(rt: HostRuntime) -> Result<(), Fail> {
+    let map = read_map(rt.alloc(), &FOUR_UNITS)?;
+    let bitmap = Bitmap::of_map(rt.alloc(), &map)?.ok_or("no bitmap")?;
+    let table = bitmap.table_bytes(rt.alloc())?;
+    assert_eq!(rt; table.as_slice(), FOUR_UNITS_TABLE.as_slice());
+    Ok(())
+}
+
+#[test]
+fn writes_an_unaligned_table(rt: HostRuntime) -> Result<(), Fail> {
+    let map = read_map(rt.alloc(), &UNALIGNED)?;
+    let bitmap = Bitmap::of_map(rt.alloc(), &map)?.ok_or("no bitmap")?;
+    let table = bitmap.table_bytes(rt.alloc())?;
+    assert_eq!(rt; table.as_slice(), table_with(0x3e).as_slice());
+    Ok(())
+}
+
+#[test]
+fn reads_a_table(rt: HostRuntime) -> Result<(), Fail> {
+    let mut bitmap = read_table(rt.alloc(), &FOUR_UNITS_TABLE)?;
+    assert_eq!(rt; bitmap.unit(), 0x20_0000);
+    assert_eq!(rt; bitmap.base(), 0x40_0000);
+    assert_eq!(rt; bitmap.next_run(Unit(0), Unit(8)), units(0, 4));
+    assert!(rt; bitmap.contains(0x60_0000, 0x1000));
+    let second = bitmap.claim_units(0x60_0000, 0x1000).ok_or("no units")?;
+    bitmap.clear(second);
+    assert!(rt; !bitmap.contains(0x60_0000, 0x1000));
+    assert_eq!(rt; bitmap.next_run(Unit(0), Unit(8)), units(0, 1));
+    assert_eq!(rt; bitmap.next_run(Unit(1), Unit(8)), units(2, 2));
+    Ok(())
+}
+
+#[test]
+fn refuses_cut_tables(rt: HostRuntime) {
+    for len in 0..24usize {
+        let fault = read_table(rt.alloc(), &FOUR_UNITS_TABLE[..len]).err();
+        assert_eq!(rt; fault, Some(TableFault::Short(len as u64)));
+    }
+    let fault = read_table(rt.alloc(), &FOUR_UNITS_TABLE[..24]).err();
+    assert_eq!(rt; fault, Some(TableFault::BadLength(1)));
+}
+
+/// What reading answers where a byte of the table was changed.
+fn fault_at(alloc: Global, at: usize, byte: u8) -> Option<TableFault>
+    requires { at < 25 }
+{
+    let mut table = FOUR_UNITS_TABLE;
+    table[at] = byte;
+    read_table(alloc, &table).err()
+}
+
+#[test]
+fn refuses_changed_tables(rt: HostRuntime) {
+    let alloc = rt.alloc();
+    assert_eq!(rt; fault_at(alloc, 0, 2), Some(TableFault::BadVersion(2)));
+    assert_eq!(rt;
+        fault_at(alloc, 6, 0x10),
+        Some(TableFault::BadUnit(0x10_0000))
+    );
+    assert_eq!(rt;
+        fault_at(alloc, 9, 0x10),
+        Some(TableFault::BadBase(0x40_1000))
+    );
+    assert_eq!(rt;
+        fault_at(alloc, 13, 1),
+        Some(TableFault::BadBase(0x100_0040_0000))
+    );
+    assert_eq!(rt; fault_at(alloc, 16, 2), Some(TableFault::BadLength(2)));
+    assert_eq!(rt; fault_at(alloc, 24, 0), None);
 }
 
 fn pending(first: u64, count: u64) -> PageRun {

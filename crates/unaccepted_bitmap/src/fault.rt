@@ -1,0 +1,47 @@
+//! Why an unaccepted table is refused.
+
+ghost use Rattle.std.specs.Prelude.{◌≡◌};
+ghost use Rattle.unaccepted_bitmap.specs.declared.fault.TableFault.TheVariants.{NoMemory};
+
+use std::alloc::{AllocError, AllocFailed};
+use thiserror::Error;
+
+/// What is wrong with an unaccepted table: the first of these, in this order.
+#[derive(Clone, Copy, Debug, PartialEq, Eq, Error)]
+pub enum TableFault {
+    /// The table, of this many bytes, ends before its 24 bytes of fields do.
+    #[error("the table ends too early, after {0} bytes")]
+    Short(u64),
+    /// The version isn't 1.
+    #[error("version {0}")]
+    BadVersion(u32),
+    /// A unit isn't 2 MiB, but this many bytes.
+    #[error("units of {0} bytes")]
+    BadUnit(u32),
+    /// The base, this address in bytes, doesn't stand on a unit's border or is above 2^40.
+    #[error("the base {0}")]
+    BadBase(u64),
+    /// The size of the bitmap, this many bytes, isn't the number of the bytes behind the fields, or a whole byte of bits lies
+    /// above 2^40.
+    #[error("a bitmap of {0} bytes")]
+    BadLength(u64),
+    /// Want of memory.
+    #[error("no memory")]
+    NoMemory,
+}
+
+impl From<AllocError> for TableFault {
+    ghost from_gives = { λ _ e. e ≡ NoMemory };
+
+    fn from(_e: AllocError) -> TableFault {
+        TableFault::NoMemory
+    }
+}
+
+impl<T: Drop> From<AllocFailed<T>> for TableFault {
+    ghost from_gives = { λ _ e. e ≡ NoMemory };
+
+    fn from(_e: AllocFailed<T>) -> TableFault {
+        TableFault::NoMemory
+    }
+}

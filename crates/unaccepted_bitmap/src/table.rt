@@ -1,0 +1,112 @@
+//! The file of an unaccepted table (after Linux's `struct efi_unaccepted_memory`). Numbers are little endian.
+ghost use Rattle.std.specs.Prelude.{◌≡◌, ◌≤◌, ◌++◌, IfOk, OnOk, length};
+ghost use Rattle.efi_map.specs.Spelling.{low_bytes};
+ghost use Rattle.unaccepted_bitmap.specs.TableFile.{GivesTable, header_of, header_fault, table_of, table_bytes_of};
+
+use crate::bitmap::Bitmap;
+use crate::fault::TableFault;
+use crate::stub::UNIT;
+use byteorder::{ByteOrder, LittleEndian};
+use guest_base::Bytes;
+use guest_base::limits::ADDRESS_END;
+use std::alloc::{AllocError, Global};
+
+/// The version of a table.
+const VERSION: u64 = 1;
+
+/// The bytes of the fields before the bits.
+const HEADER_BYTES: usize = 24;
+
+/// The fields of a table, which stand before its bits.
+#[derive(Clone, Copy, Debug)]
+pub struct Header {
+    pub version: u32,
+    /// The bytes of a unit.
+    pub unit: u32,
+    /// The address of the first unit, in bytes.
+    pub base: u64,
+    /// The bytes of bits.
+    pub size: u64,
+}
+
+#[tactic(auto, unfolding(efi_map::specs::MapFile::number, crate::specs::TableFile::header_of))]
+fn read_header(bytes: &[u8]) -> Header
+    requires { 24 ≤ length bytes.now }
+    ensures { result ≡ header_of bytes.now }
+{
+    Header {
+        version: LittleEndian::read_u32(bytes),
+        unit: LittleEndian::read_u32(&bytes[4..]),
+        base: LittleEndian::read_u64(&bytes[8..]),
+        size: LittleEndian::read_u64(&bytes[16..]),
+    }
+}
+
+/// The first thing that is wrong with the fields of a table behind which so many bytes stand.
+fn header_fault(header: Header, left: u64) -> Option<TableFault>
+    ensures { result ≡ header_fault header left }
+{
+    let unit = u64::from(header.unit);
+    if u64::from(header.version) != VERSION {
+        Some(TableFault::BadVersion(header.version))
+    } else if unit != UNIT {
+        Some(TableFault::BadUnit(header.unit))
+    } else if header.base % unit != 0 || header.base > ADDRESS_END {
+        Some(TableFault::BadBase(header.base))
+    } else if header.size != left || left > (ADDRESS_END - header.base).div_ceil(8 * unit) {
+        Some(TableFault::BadLength(header.size))
+    } else {
+        None
+    }
+}
+
+/// The bitmap that a table holds, or the first refusal (`TableFault` tells each).
+#[tactic(auto, unfolding(crate::specs::TableFile::table_of, crate::specs::TableFile::table_fault))]
+pub fn read_table(alloc: Global, bytes: &[u8]) -> Result<Bitmap, TableFault>
+    // It is the bitmap of these bytes, or their first refusal, unless memory ran out.
+    ensures { GivesTable result (table_of bytes.now) }
+{
+    if bytes.len() < HEADER_BYTES {
+        return Err(TableFault::Short(bytes.len() as u64));
+    }
+    let header = read_header(bytes);
+    let bits = &bytes[HEADER_BYTES..];
+    if let Some(fault) = header_fault(header, bits.len() as u64) {
+        return Err(fault);
+    }
+    Ok(Bitmap::from_bits(
+        u64::from(header.unit),
+        header.base,
+        Vec::from_slice(alloc, bits)?,
+    ))
+}
+
+/// Adds the lowest 4 bytes of a number.
+#[tactic(auto, unfolding(efi_map::specs::Spelling::low_bytes))]
+fn put_word(out: &mut Vec<u8>, number: u64) -> Result<(), AllocError>
+    ensures { OnOk result (out.new.items ≡ out.old.items ++ low_bytes 4 number) }
+{
+    out.extend_from_slice(&number.to_le_bytes()[..4])
+}
+
+/// Adds the 8 bytes of a number.
+#[tactic(auto, unfolding(efi_map::specs::Spelling::low_bytes))]
+fn put_long(out: &mut Vec<u8>, number: u64) -> Result<(), AllocError>
+    ensures { OnOk result (out.new.items ≡ out.old.items ++ low_bytes 8 number) }
+{
+    out.extend_from_slice(&number.to_le_bytes())
+}
+
+/// The table of a bitmap of these bytes of a unit, this base in bytes, and these bits.
+#[tactic(auto, unfolding(crate::specs::TableFile::table_bytes_of))]
+pub fn table_bytes(alloc: Global, unit: u64, base: u64, bits: &[u8]) -> Result<Bytes, AllocError>
+    ensures { IfOk result (λ bytes. bytes ≡ table_bytes_of (record { unit = unit; base = base; bits = bits.now })) }
+{
+    let mut out = Vec::new(alloc);
+    put_word(&mut out, VERSION)?;
+    put_word(&mut out, unit)?;
+    put_long(&mut out, base)?;
+    put_long(&mut out, bits.len() as u64)?;
+    out.extend_from_slice(bits)?;
+    Ok(Bytes::from_vec(out))
+}
