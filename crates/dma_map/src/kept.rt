@@ -53,7 +53,7 @@ impl Mappings {
     }
 
     /// Makes room for one more mapping. The mappings stay, also after a refusal.
-    pub fn reserve(&mut self) -> Result<(), AllocError>
+    pub fn reserve(&mut self, _alloc: Global) -> Result<(), AllocError>
         ensures same { (n : List ℕ) → live_at self.new n ≡ live_at self.old n }
         ensures ok { OnOk result (0 < self.new.room) }
         ensures room { self.old.room ≤ self.new.room }
@@ -145,7 +145,7 @@ mod tests {
             direction: Direction::Both,
         };
         let mut mappings = Mappings::new(rt.alloc());
-        mappings.reserve()?;
+        mappings.reserve(rt.alloc())?;
         mappings.insert(name.copy(), live);
         assert_eq!(rt; mappings.find(&name), Some(live));
         assert!(rt; mappings.any_in(block));
