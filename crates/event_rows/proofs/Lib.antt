@@ -3,6 +3,9 @@ pub mod BounceFacts
 pub mod ConversionFacts
 pub mod Evaluated
 pub mod OnePageFacts
+pub mod PickLemmas
+pub mod PoolBootFacts
 pub mod PrintFacts
 pub mod RowLemmas
 pub mod TwoFacts
+pub mod WaitingFacts

@@ -1,7 +1,9 @@
 pub mod Accepts
+pub mod BootMaps
 pub mod Bounces
 pub mod Conversions
 pub mod OnePage
 pub mod SmallMap
 pub mod TwoProcessors
+pub mod Waiting
 pub mod Written
