@@ -1,7 +1,6 @@
-use Rattle.std.proofs.Common.{◌≡◌, ◌≢◌, ℕ, Option, None, Some, List, [], ◌∷◌, refl, sym, ap, inl, inr, arith}
+use Rattle.std.proofs.Common.{◌≡◌, ◌≢◌, ℕ, List, [], ◌∷◌, refl, sym, ap}
 use Rattle.guest_base.specs.Search.{first_such, each_such, any_such, count_such, row_length}
 use Rattle.guest_base.specs.Blocks.{lowest_free}
-use Rattle.event_core.specs.declared.reply.Found.TheVariants.{Absent}
 use Rattle.event_core.specs.Units.{guarded, bit_after, first_run, units_cleared}
 use Rattle.event_core.specs.Acceptance.{fits}
 use Rattle.event_core.specs.Claims.{claim_of, in_the_way}

@@ -1,4 +1,4 @@
-use Rattle.std.proofs.Common.{◌≡◌, ◌≢◌, ℕ, Option, None, Some, List, [], ◌∷◌, refl, sym, ap, inl, inr, arith}
+use Rattle.std.proofs.Common.{◌≡◌, ◌≢◌, ℕ, Some, List, [], ◌∷◌, refl, sym, ap, inl, inr}
 use Rattle.guest_base.specs.Search.{first_such, each_such, any_such, count_such, row_length}
 use Rattle.guest_base.specs.Blocks.{lowest_free}
 use Rattle.event_core.specs.declared.reply.Found.{Found}

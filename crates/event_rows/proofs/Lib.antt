@@ -1,3 +1,4 @@
+pub mod AreaFacts
 pub mod BootFacts
 pub mod BounceFacts
 pub mod ConversionFacts

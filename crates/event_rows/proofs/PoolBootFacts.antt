@@ -1,24 +1,22 @@
-use Rattle.std.proofs.Common.{◌≡◌, ◌≢◌, ℕ, zero, suc, Option, None, Some, Bool, true, false, List, [], ◌∷◌, refl, sym, ◌∙◌, ap, inl, inr, arith, ◌<◌, ◌||◌, if◌then◌else◌, cond}
+use Rattle.std.proofs.Common.{◌≡◌, ◌≢◌, ℕ, zero, suc, None, Some, Bool, true, false, [], refl, inl, inr, arith, ◌<◌, ◌||◌, if◌then◌else◌, cond}
 use Rattle.std.specs.Prelude.{All}
 use Rattle.std.specs.Option.{option_map}
 use Rattle.std.specs.List.{AllPairs}
 use Rattle.std.proofs.lemmas.Bool.Decides.{nat_tests}
 use Rattle.std.proofs.lemmas.List.Sorted.{IsPermutation-refl}
-use Rattle.guest_base.specs.Search.{first_such, each_such, any_such, count_such, row_length}
+use Rattle.guest_base.specs.Search.{first_such, each_such, any_such, row_length}
 use Rattle.guest_base.specs.Ranges.{in_range}
-use Rattle.guest_base.specs.declared.memory.Page.{Page}
-use Rattle.guest_base.specs.declared.memory.PageState.{PageState}
 use Rattle.guest_base.specs.declared.memory.PageState.TheVariants.{Accepted}
 use Rattle.guest_base.specs.declared.memory.PageRun.{PageRun}
 use Rattle.event_core.specs.Runs.{GoesBefore, state_in}
 use Rattle.event_core.specs.Map.{first_state}
-use Rattle.event_core.specs.Units.{bit_of, guarded, bit_after, first_run}
+use Rattle.event_core.specs.Units.{guarded, bit_after, first_run}
 use Rattle.event_core.specs.Acceptance.{fits}
 use Rattle.event_core.specs.MemoryRows.{pending_in}
-use Rattle.event_core.specs.Stub.{EarlyPieces, stub_bit}
+use Rattle.event_core.specs.Stub.{EarlyPieces}
 use Rattle.event_core.specs.Cut.{cut, blocks_from, order_at}
-use Rattle.event_core.specs.Boot.{BootRight, BootCalls, IsPoolPlace, PoolPlaced, HasRoom}
-use Rattle.event_rows.specs.Bounces.{pool_guest, small_pool}
+use Rattle.event_core.specs.Boot.{BootRight, BootCalls, PoolPlaced}
+use Rattle.event_rows.specs.Bounces.{pool_guest}
 use Rattle.event_rows.specs.BootMaps.{pool_map, small_pages_map, stopped_guest, stopped_calls}
 
 one_way : (b : Bool) → option_map (λ (run : PageRun). run.state) (cond b (Some (record { pages = record { first = 0; count = 65 }; state = Accepted })) None) ≡ (if b || false then Some Accepted else None)

@@ -1,5 +1,5 @@
-use Rattle.std.proofs.Common.{◌≡◌, ℕ, zero, suc, ◌+◌, ◌<◌, Bool, true, false, ◌&&◌, Option, None, Some, List, [], ◌∷◌, ◌++◌, refl, ◌∙◌, ap, inl, arith, length}
-use Rattle.std.specs.Prelude.{All, slice_get, nat_lt, map}
+use Rattle.std.proofs.Common.{◌≡◌, ℕ, zero, suc, ◌<◌, Bool, true, false, ◌&&◌, Option, None, Some, List, [], ◌∷◌, ◌++◌, refl, ◌∙◌, ap, inl, arith, length}
+use Rattle.std.specs.Prelude.{All, slice_get, nat_lt}
 use Rattle.std.specs.List.{list_all}
 use Rattle.std.proofs.lemmas.Bool.Decides.{nat_tests}
 use Rattle.std.proofs.lemmas.List.Elements.{All-nil, All-cons}
@@ -12,7 +12,7 @@ use Rattle.event_core.specs.declared.reply.Reply.TheVariants as reply
 use Rattle.event_core.specs.Next.{Step}
 use Rattle.event_core.specs.Moved.{Moved, made_by}
 use Rattle.event_core.specs.Own.{replied}
-use Rattle.event_core.specs.Legal.{Whole, Follows, LegalAfter, Legal, with_bytes, with_moved, ComesBefore}
+use Rattle.event_core.specs.Legal.{Follows, LegalAfter, with_bytes, with_moved, ComesBefore}
 
 -- A history written out is legal entry by entry.
 

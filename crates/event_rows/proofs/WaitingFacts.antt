@@ -1,7 +1,5 @@
-use Rattle.std.proofs.Common.{◌≡◌, ◌≢◌, ℕ, Option, None, Some, List, [], ◌∷◌, refl, sym, ◌∙◌, ap, inl, inr, arith}
+use Rattle.std.proofs.Common.{◌≡◌, ℕ, Option, None, Some, List, [], ◌∷◌, refl, sym, ◌∙◌, ap, inr}
 use Rattle.guest_base.specs.Search.{first_such, each_such, any_such, count_such, row_length}
-use Rattle.guest_base.specs.Blocks.{pick}
-use Rattle.event_core.specs.declared.reply.Found.TheVariants.{Absent}
 use Rattle.event_core.specs.Units.{guarded, bit_after, first_run, units_cleared}
 use Rattle.event_core.specs.Acceptance.{fits}
 use Rattle.event_core.specs.Claims.{claim_of, in_the_way}
@@ -17,18 +15,15 @@ use Rattle.event_core.specs.ConvertRows.{aim_of, is_shared_block, convert_end, p
 use Rattle.event_core.specs.OwnRows.{found_at}
 use Rattle.event_core.specs.Legal.{Whole}
 use Rattle.event_rows.proofs.RowLemmas.{legal-rows, one-replied}
-use Rattle.std.specs.Prelude.{Bool, true, false, cond, find, not, ◌&&◌}
+use Rattle.std.specs.Prelude.{Bool, true, false, cond, not, ◌&&◌}
 use Rattle.std.specs.Option.{option_map}
 use Rattle.guest_base.specs.Ranges.{in_range}
-use Rattle.guest_base.specs.declared.memory.Block.{Block}
 use Rattle.event_core.specs.declared.event.Event.{Event}
 use Rattle.event_core.specs.declared.event.Event.TheVariants.{Claim}
 use Rattle.event_core.specs.declared.entry.Entry.{Entry}
-use Rattle.event_core.specs.Absent.{in_block}
 use Rattle.event_core.specs.Blocks.{is_loose}
 use Rattle.event_core.specs.BlockRows.{with_pick}
-use Rattle.event_core.specs.Next.{Step, alloc_reply, next_step}
-use Rattle.event_core.specs.Legal.{Follows}
+use Rattle.event_core.specs.Next.{Step, alloc_reply}
 use Rattle.event_rows.proofs.PickLemmas.{pick-none, pick-low}
 use Rattle.event_rows.specs.Waiting.{waiting_guest, waiting_script, whole_block, waiting_history, unwaited_history, block_claimed, block_reported, page_got}
 

@@ -1,5 +1,4 @@
 use Rattle.std.specs.Prelude.{ℕ, List, [], ◌∷◌, None, Some, codes}
-use Rattle.guest_base.specs.declared.memory.Page.{Page}
 use Rattle.guest_base.specs.declared.memory.Level.TheVariants.{Small}
 use Rattle.guest_base.specs.declared.memory.PageState.TheVariants.{Accepted, Shared}
 use Rattle.event_core.specs.declared.boot.Boot.{Boot}
@@ -12,9 +11,7 @@ use Rattle.event_core.specs.declared.module_call.PortAnswer.TheVariants as answe
 use Rattle.event_core.specs.declared.module_call.ModuleCall.{ModuleCall}
 use Rattle.event_core.specs.declared.reply.Found.{Found}
 use Rattle.event_core.specs.declared.reply.Found.TheVariants as found
-use Rattle.event_core.specs.declared.reply.Reply.{Reply}
 use Rattle.event_core.specs.declared.reply.Reply.TheVariants as reply
-use Rattle.event_core.specs.declared.event.ConvertEnd.{ConvertEnd as End}
 use Rattle.event_core.specs.declared.event.ConvertEnd.TheVariants as end
 use Rattle.event_core.specs.declared.event.Event.TheVariants as event
 use Rattle.event_core.specs.declared.entry.Place.TheVariants as place

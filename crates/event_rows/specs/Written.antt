@@ -1,11 +1,8 @@
-use Rattle.std.specs.Prelude.{ℕ, List, [], ◌∷◌, Option, None, Some}
-use Rattle.guest_base.specs.declared.memory.PageRun.{PageRun}
-use Rattle.guest_base.specs.declared.memory.Pages.{Pages}
+use Rattle.std.specs.Prelude.{ℕ, [], ◌∷◌, Option, None}
 use Rattle.guest_base.specs.declared.memory.Block.{Block}
 use Rattle.guest_base.specs.declared.memory.PageState.TheVariants.{Accepted}
 use Rattle.event_core.specs.declared.boot.Boot.{Boot}
 use Rattle.event_core.specs.declared.reply.Reply.{Reply}
-use Rattle.event_core.specs.declared.module_call.ModuleCall.{ModuleCall}
 use Rattle.event_core.specs.declared.event.Event.{Event}
 use Rattle.event_core.specs.declared.entry.Place.{Place}
 use Rattle.event_core.specs.declared.entry.Entry.{Entry}

@@ -3,6 +3,7 @@
 #![tactic(auto)]
 
 mod accepts;
+mod areas;
 mod blocks;
 mod booted;
 mod bounces;
@@ -16,6 +17,7 @@ pub use accepts::{
     unit_accepted_is_whole, unit_accepted_small_is_not, unit_miscounted_is_not,
     unit_unguarded_is_not, unit_unreported_is_not,
 };
+pub use areas::{areas_filled_is_whole, full_unanswered_is_not};
 pub use blocks::{block_got_is_whole, block_misread_is_not};
 pub use booted::{boot_is_stopped, pool_guest_is_booted, small_guest_is_booted};
 pub use bounces::{block_bounced_is_whole, block_miscopied_is_not, device_misread_is_not};
