@@ -1,3 +1,12 @@
+pub mod AreaFacts
 pub mod BootFacts
+pub mod BounceFacts
+pub mod ConversionFacts
 pub mod Evaluated
+pub mod OnePageFacts
+pub mod PickLemmas
+pub mod PoolBootFacts
 pub mod PrintFacts
+pub mod RowLemmas
+pub mod TwoFacts
+pub mod WaitingFacts

@@ -1,2 +1,10 @@
 pub mod Accepts
+pub mod BootMaps
+pub mod Bounces
+pub mod Conversions
+pub mod OnePage
 pub mod SmallMap
+pub mod TwoAreas
+pub mod TwoProcessors
+pub mod Waiting
+pub mod Written

@@ -3,7 +3,13 @@
 #![tactic(auto)]
 
 mod accepts;
+mod areas;
+mod blocks;
 mod booted;
+mod bounces;
+mod conversions;
+mod processors;
+mod waiting;
 
 pub use accepts::{
     page_accepted_is_printed, page_accepted_is_whole, page_accepted_singly_is_not,
@@ -11,4 +17,12 @@ pub use accepts::{
     unit_accepted_is_whole, unit_accepted_small_is_not, unit_miscounted_is_not,
     unit_unguarded_is_not, unit_unreported_is_not,
 };
-pub use booted::small_guest_is_booted;
+pub use areas::{areas_filled_is_whole, full_unanswered_is_not};
+pub use blocks::{block_got_is_whole, block_misread_is_not};
+pub use booted::{boot_is_stopped, pool_guest_is_booted, small_guest_is_booted};
+pub use bounces::{block_bounced_is_whole, block_miscopied_is_not, device_misread_is_not};
+pub use conversions::{block_converted_is_whole, bytes_kept_is_not, half_block_found_is_not};
+pub use processors::{
+    both_accept_is_whole, claim_too_early_is_not, first_miscounted_is_not, second_miscounted_is_not,
+};
+pub use waiting::{page_got_at_once_is_not, waiting_block_is_whole};
