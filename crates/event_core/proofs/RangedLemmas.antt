@@ -1,5 +1,5 @@
 use Rattle.std.proofs.Common.{◌≡◌, ℕ, zero, suc, Bool, true, false, Option, None, Some, List, [], ◌∷◌, ◌++◌, refl, sym, ◌∙◌, ap, subst, arith}
-use Rattle.std.specs.Prelude.{slice_get, unwrap_or, IfSome, All, fold, length, ◌<◌}
+use Rattle.std.specs.Prelude.{slice_get, unwrap_or, IfSome, All, fold}
 use Rattle.std.specs.Option.{option_and_then, option_map}
 use Rattle.std.specs.List.{AllByRecursion, AllPairs, list_any}
 use Rattle.guest_base.specs.Ranges.{in_range}
@@ -25,12 +25,12 @@ use Rattle.event_core.specs.Holdings.{Own}
 use Rattle.event_core.specs.Moved.{Moved, entries_of, made_by}
 use Rattle.event_core.specs.Own.{present, replied, script_of, own_of}
 use Rattle.event_core.specs.MemoryRows.{run_of_claim, next_run, cleared_by}
-use Rattle.event_core.specs.Refusals.{refuse, refusal_of, memory_range_refusal}
+use Rattle.event_core.specs.Refusals.{refuse, memory_range_refusal}
 use Rattle.event_core.specs.Next.{Step, next_step, step_of, unrefused_step, refused_or, accept_step, claim_reply, report_reply}
 use Rattle.event_core.specs.Legal.{Follows, LegalAfter, Legal, with_bytes, at_place}
 use Rattle.event_core.specs.Pool.{live_after, live_runs}
 use Rattle.event_core.specs.Touches.{touched_by, unless_refused, strayed_into}
-use Rattle.event_core.specs.Untouched.{Untouched, touched_pages, among, StraysSafely}
+use Rattle.event_core.specs.Untouched.{Untouched, touched_pages, among}
 use Rattle.event_core.specs.Disjoint.{Disjoint, ApartRuns}
 use Rattle.event_core.specs.Before.{own_before, StandsAt}
 use Rattle.event_core.specs.BytesTold.{BytesTold}

@@ -11,7 +11,7 @@ use Rattle.event_core.specs.declared.module_call.ModuleCall.{ModuleCall}
 use Rattle.event_core.specs.declared.event.ConvertEnd.{ConvertEnd as End}
 use Rattle.event_core.specs.declared.event.ConvertEnd.TheVariants.{Converted, Refused, Half}
 use Rattle.event_core.specs.declared.event.Event.{Event}
-use Rattle.event_core.specs.declared.event.Event.TheVariants.{ConvertBegin, ConvertEnd}
+use Rattle.event_core.specs.declared.event.Event.TheVariants.{ConvertBegin}
 use Rattle.event_core.specs.declared.entry.Entry.{Entry}
 use Rattle.event_core.specs.Calls.{calls_of, is_done, HonestHost}
 use Rattle.event_core.specs.Acceptance.{AcceptanceSteps, stop_of}

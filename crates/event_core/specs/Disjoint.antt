@@ -1,4 +1,4 @@
-use Rattle.std.specs.Prelude.{ℕ, List, ◌++◌, ◌≡◌, ◌≢◌, ◌⊎◌, ◌+◌, ◌≤◌, All}
+use Rattle.std.specs.Prelude.{List, ◌++◌, ◌≡◌, ◌≢◌, ◌⊎◌, ◌+◌, ◌≤◌, All}
 use Rattle.std.specs.List.{AllPairs}
 use Rattle.guest_base.specs.Slots.{InOneSegment}
 use Rattle.guest_base.specs.declared.transfer.SlotRun.{SlotRun}

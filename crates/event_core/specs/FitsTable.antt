@@ -1,4 +1,4 @@
-use Rattle.std.specs.Prelude.{ℕ, List, Bool, true, ◌≡◌, ◌+◌, ◌-◌, ◌*◌, ◌/◌, ◌%◌, ◌^◌, ◌≤◌, ◌&&◌, length}
+use Rattle.std.specs.Prelude.{ℕ, List, true, ◌≡◌, ◌+◌, ◌-◌, ◌*◌, ◌/◌, ◌%◌, ◌^◌, ◌≤◌, ◌&&◌, length}
 use Rattle.std.specs.List.{list_any}
 use Rattle.guest_base.specs.Ranges.{in_range}
 use Rattle.event_core.specs.declared.boot.Descriptor.{Descriptor}

@@ -1,4 +1,4 @@
-use Rattle.std.specs.Prelude.{ℕ, List, [], Option, None, Bool, true, false, ◌^◌, ◌*◌, ◌==◌, ◌&&◌, bytes_eq, find}
+use Rattle.std.specs.Prelude.{ℕ, List, Option, Bool, true, false, ◌^◌, ◌*◌, ◌==◌, ◌&&◌, bytes_eq, find}
 use Rattle.std.specs.List.{list_any}
 use Rattle.guest_base.specs.declared.memory.Block.{Block}
 use Rattle.guest_base.specs.declared.transfer.Direction.{Direction}

@@ -13,7 +13,6 @@ use Rattle.event_core.specs.declared.command.Command.{Command}
 use Rattle.event_core.specs.declared.command.Command.TheVariants as command
 use Rattle.event_core.specs.declared.reply.Reply.{Reply}
 use Rattle.event_core.specs.declared.reply.Reply.TheVariants as reply
-use Rattle.event_core.specs.declared.reply.Found.{Found}
 use Rattle.event_core.specs.declared.event.ConvertEnd.{ConvertEnd as End}
 use Rattle.event_core.specs.declared.event.ConvertEnd.TheVariants.{Converted, Refused, Half}
 use Rattle.event_core.specs.declared.event.Event.{Event}
@@ -24,10 +23,10 @@ use Rattle.event_core.specs.Acceptance.{stop_of}
 use Rattle.event_core.specs.Claims.{Claimed, claim_of}
 use Rattle.event_core.specs.Moved.{Moved, entries_of}
 use Rattle.event_core.specs.Bytes.{row_of}
-use Rattle.event_core.specs.Holdings.{Holding, Mapping, Own, block_named, mapping_named, same_block, block_bytes, asks_in, asks_out}
+use Rattle.event_core.specs.Holdings.{Holding, Own, block_named, mapping_named, asks_in, asks_out}
 use Rattle.event_core.specs.Own.{present, own_of, script_of}
 use Rattle.event_core.specs.Refusals.{refusal_of}
-use Rattle.event_core.specs.Pool.{run_found, pool_place}
+use Rattle.event_core.specs.Pool.{run_found}
 use Rattle.event_core.specs.PoolBytes.{taken_bytes}
 use Rattle.event_core.specs.MemoryRows.{claim_event, run_of_claim, report_event, next_run, cleared_by, some_unaccepted}
 use Rattle.event_core.specs.BlockRows.{alloc_event}

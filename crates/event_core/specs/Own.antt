@@ -1,4 +1,4 @@
-use Rattle.std.specs.Prelude.{ℕ, List, [], ◌∷◌, Option, None, Some, Bool, true, false, not, ◌+◌, is_some, count_by, slice_get, unwrap_or, fold, map, filter, bytes_eq, if◌then◌else◌}
+use Rattle.std.specs.Prelude.{ℕ, List, [], ◌∷◌, Option, None, Some, true, false, not, ◌+◌, is_some, count_by, slice_get, unwrap_or, fold, map, filter, bytes_eq, if◌then◌else◌}
 use Rattle.std.specs.Option.{option_and_then, option_map_or}
 use Rattle.std.specs.List.{filter_map, repeat}
 use Rattle.guest_base.specs.declared.memory.Block.{Block}

@@ -1,4 +1,4 @@
-use Rattle.std.specs.Prelude.{ℕ, List, ◌++◌, ◌∷◌, [], Option, None, Some, Bool, true, false, ◌+◌, ◌-◌, ◌^◌, nat_le, if◌then◌else◌}
+use Rattle.std.specs.Prelude.{ℕ, List, ◌++◌, ◌∷◌, [], Option, None, Some, Bool, true, false, ◌+◌, ◌-◌, ◌^◌, nat_le}
 use Rattle.std.specs.List.{repeat}
 use Rattle.guest_base.specs.declared.memory.Block.{Block}
 use Rattle.guest_base.specs.declared.memory.PageState.{PageState}

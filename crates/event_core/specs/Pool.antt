@@ -1,4 +1,4 @@
-use Rattle.std.specs.Prelude.{ℕ, List, [], ◌∷◌, Option, None, Some, Bool, not, ◌+◌, ◌*◌, ◌/◌, ◌==◌, ◌&&◌, fold, filter}
+use Rattle.std.specs.Prelude.{ℕ, List, [], ◌∷◌, Option, Some, Bool, not, ◌+◌, ◌*◌, ◌/◌, ◌==◌, ◌&&◌, fold, filter}
 use Rattle.std.specs.Option.{option_map, option_map_or}
 use Rattle.std.specs.List.{list_any}
 use Rattle.guest_base.specs.Ranges.{in_range}

@@ -1,6 +1,5 @@
-use Rattle.std.specs.Prelude.{ℕ, List, [], ◌+◌, Option, None, Some, true, false, fold, slice_get}
+use Rattle.std.specs.Prelude.{ℕ, List, [], ◌+◌, Option, None, Some, true, fold, slice_get}
 use Rattle.std.specs.Option.{option_map_or}
-use Rattle.guest_base.specs.declared.transfer.SlotRun.{SlotRun}
 use Rattle.event_core.specs.declared.boot.Boot.{Boot}
 use Rattle.event_core.specs.declared.command.Command.{Command}
 use Rattle.event_core.specs.declared.command.Command.TheVariants.{Map, SyncDev, DWrite, HostWrite}

@@ -1,11 +1,11 @@
-use Rattle.std.specs.Prelude.{ℕ, List, Option, None, Some, Bool, not, ◌+◌, ◌-◌, ◌*◌, ◌^◌, ◌==◌, nat_lt, nat_le, is_some, is_none, length, if◌then◌else◌}
+use Rattle.std.specs.Prelude.{ℕ, Option, None, Some, Bool, not, ◌+◌, ◌-◌, ◌*◌, ◌^◌, ◌==◌, nat_lt, nat_le, is_some, is_none, length, if◌then◌else◌}
 use Rattle.guest_base.specs.Requests.{too_long}
 use Rattle.event_core.specs.declared.boot.Boot.{Boot}
 use Rattle.event_core.specs.declared.command.Command.{Command}
 use Rattle.event_core.specs.declared.command.Command.TheVariants.{Alloc, Free, Accept, Query, Read, Write, Fill, Load, Share, Private, Map, SyncDev, SyncCpu, Unmap, DRead, DWrite, HostRead, HostWrite}
 use Rattle.event_core.specs.declared.reply.Reply.{Reply}
 use Rattle.event_core.specs.declared.reply.Reply.TheVariants.{Unknown, Taken, Range, IsShared, IsPrivate, Half, Mapped, TooLong, Zero, NoPool}
-use Rattle.event_core.specs.Holdings.{Sharing, PrivateBlock, SharedBlock, HalfBlock, Holding, Mapping, Own, block_named, mapping_named, is_mapped, block_bytes}
+use Rattle.event_core.specs.Holdings.{Sharing, PrivateBlock, SharedBlock, HalfBlock, Holding, Own, block_named, mapping_named, is_mapped, block_bytes}
 use Rattle.event_core.specs.Pool.{area_of_offset}
 
 -- The refusals of a command, the first one that holds (own rule).

@@ -1,9 +1,7 @@
-use Rattle.std.specs.Prelude.{ℕ, List, [], ◌∷◌, Option, None, Some, Bool, true, false, ◌+◌, ◌-◌, ◌*◌, ◌/◌, ◌^◌, length, min, slice_get}
+use Rattle.std.specs.Prelude.{ℕ, List, [], ◌∷◌, Option, None, Some, true, ◌+◌, ◌-◌, ◌*◌, ◌/◌, ◌^◌, length, min}
 use Rattle.std.specs.Option.{option_map_or}
-use Rattle.guest_base.specs.declared.memory.Page.{Page}
 use Rattle.guest_base.specs.declared.memory.Pages.{Pages}
 use Rattle.guest_base.specs.declared.memory.Block.{Block}
-use Rattle.guest_base.specs.declared.transfer.SlotRun.{SlotRun}
 use Rattle.event_core.specs.declared.boot.Boot.{Boot}
 use Rattle.event_core.specs.declared.command.Command.{Command}
 use Rattle.event_core.specs.declared.command.Command.TheVariants as command

@@ -1,4 +1,5 @@
 pub mod AreaFacts
+pub mod BlockingFacts
 pub mod BootFacts
 pub mod BounceFacts
 pub mod ConversionFacts

@@ -9,6 +9,7 @@ mod booted;
 mod bounces;
 mod conversions;
 mod processors;
+mod steps;
 mod waiting;
 
 pub use accepts::{
@@ -25,4 +26,5 @@ pub use conversions::{block_converted_is_whole, bytes_kept_is_not, half_block_fo
 pub use processors::{
     both_accept_is_whole, claim_too_early_is_not, first_miscounted_is_not, second_miscounted_is_not,
 };
+pub use steps::blocked_whatever_is_answered;
 pub use waiting::{page_got_at_once_is_not, waiting_block_is_whole};

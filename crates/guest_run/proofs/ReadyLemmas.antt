@@ -14,7 +14,6 @@ use Rattle.event_core.specs.declared.module_call.ModuleCall.{ModuleCall}
 use Rattle.event_core.specs.declared.event.Event.TheVariants as event
 use Rattle.event_core.specs.declared.entry.Entry.{Entry}
 use Rattle.event_core.specs.declared.reply.Reply.{Reply}
-use Rattle.event_core.specs.Moved.{Moved}
 use Rattle.event_core.specs.Holdings.{Own}
 use Rattle.event_core.specs.Refusals.{refusal_of, memory_range_refusal}
 use Rattle.event_core.specs.Calls.{calls_of, calls_in}

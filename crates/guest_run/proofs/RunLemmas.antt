@@ -1,4 +1,4 @@
-use Rattle.std.proofs.Common.{◌≡◌, ℕ, suc, zero, ◌+◌, ◌-◌, ◌^◌, ◌<◌, Bool, true, false, ◌&&◌, Option, None, Some, List, [], ◌∷◌, ◌++◌, refl, sym, ◌∙◌, ap, subst, inl, inr, arith, cond, append_assoc, append-nil, ◌==◌, eqb-true, eq-eqb, length, get_or, map, filter}
+use Rattle.std.proofs.Common.{◌≡◌, ℕ, suc, zero, ◌+◌, ◌-◌, ◌^◌, ◌<◌, Bool, true, false, ◌&&◌, Option, None, Some, List, [], ◌∷◌, ◌++◌, refl, sym, ◌∙◌, ap, subst, inl, inr, arith, cond, ◌==◌, eqb-true, eq-eqb, length, get_or, map, filter}
 use Rattle.std.specs.Prelude.{IfSome, slice_get, slice_set, find, All, Result, Ok, Err, IfOk, OnOk}
 use Rattle.std.specs.Option.{option_map}
 use Rattle.std.specs.List.{filter_map, flat_map, AllByRecursion}
@@ -19,11 +19,10 @@ use Rattle.event_core.specs.Map.{MapRules}
 use Rattle.event_core.specs.Runs.{run_holds, state_in, AreMaximalRuns}
 use Rattle.event_core.specs.Calls.{States, calls_in, calls_of, is_done, covers, after_call, state_after, SoundCalls}
 use Rattle.event_core.specs.Boot.{BootRight}
-use Rattle.event_core.specs.Moved.{Moved, entries_of, made_by}
-use Rattle.event_core.specs.Own.{replies_in}
+use Rattle.event_core.specs.Moved.{Moved, made_by}
 use Rattle.event_core.specs.Next.{Step, next_step}
 use Rattle.event_core.specs.MemoryRows.{page_state}
-use Rattle.event_core.specs.Legal.{at_place, with_bytes, moved_after, LegalAfter, Legal, Whole}
+use Rattle.event_core.specs.Legal.{at_place, with_bytes, LegalAfter, Legal, Whole}
 use Rattle.event_core.specs.Turns.{numbers_from}
 use Rattle.event_core.specs.Printed.{replies_by_processor, replies_of_cpu}
 use Rattle.event_core.specs.Texts.{run_text}
