@@ -18,3 +18,7 @@ module _ {S : Type 0} (fixed : S → Fixed) (part : S → ℕ → Part) (table :
 
     pub at_first : (cpu : ℕ) (d : PassSeen) → cpu < seats → get_or passes cpu d ≡ first_pass cpu
     at_first cpu d below = ap (λ (l : List PassSeen). get_or l cpu d) made ∙ get_or-map-range_with_len first_pass 0 seats cpu cpu d below (omega arith)
+
+-- the number that a part of the small state keeps
+abbrev pub number_of : Part → ℕ
+number_of p = get_or p.room 0 0

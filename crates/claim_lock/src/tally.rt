@@ -64,7 +64,8 @@ impl Parted for Tally {
 
 impl Tally {
     fn new(alloc: Global) -> Tally
-        ensures { result.notes.items ≡ [] }
+        ensures counts { (cpu : ℕ) → cpu < 64 → slice_index result.counts cpu ≡ 0 }
+        ensures notes { result.notes.items ≡ [] }
     {
         Tally {
             counts: [0; 64],
@@ -72,9 +73,11 @@ impl Tally {
         }
     }
 
-    // Counts for a processor, and keeps the entry twice; nothing is done for want of memory.
+    // Counts for a processor, and keeps the entry twice; nothing is done for want of memory, or at the last count.
     fn count(&mut self, cpu: u32, made: &mut Vec<Note>)
-        requires { cpu < 64 }
+        requires cpu { cpu < 64 }
+        requires number { slice_index self.old.counts cpu ≡ length made.old.items }
+        ensures number { slice_index self.new.counts cpu ≡ length made.new.items }
         ensures others { (other : ℕ) → other ≢ cpu → slice_index self.new.counts other ≡ slice_index self.old.counts other }
         ensures notes { (new : List Moved) × (self.new.notes.items ≡ self.old.notes.items ++ new) × (made.new.items ≡ made.old.items ++ new) × All (λ m. m.entry.cpu.0 ≡ cpu) new }
     {
@@ -82,7 +85,10 @@ impl Tally {
             return;
         }
         let cmd = self.counts[cpu as usize];
-        self.counts[cpu as usize] = cmd.wrapping_add(1);
+        let Some(next) = cmd.checked_add(1) else {
+            return;
+        };
+        self.counts[cpu as usize] = next;
         self.notes.push_reserved(Note::new(cpu, cmd));
         made.push_reserved(Note::new(cpu, cmd));
     }
@@ -182,7 +188,8 @@ fn cleared(
     Ok((passes, all_made))
 }
 
-// Lets so many processors count in threads of their own. Of each of them the state has just the entries that it made.
+// Lets so many processors count in threads of their own. Of each of them the state has just the entries that it made, and
+// their number.
 pub fn tallied<R: Threads + Wait + Sync>(
     rt: &R,
     alloc: Global,
@@ -192,6 +199,7 @@ pub fn tallied<R: Threads + Wait + Sync>(
     requires { (1 ≤ seats) × (seats ≤ 64) }
     ensures count { IfOk result (λ r. length r.1.items ≡ seats) }
     ensures entries { IfOk result (λ r. (cpu : ℕ) (d : _) → cpu < seats → made_by cpu r.0.notes.items ≡ (slice_index_or r.1.items cpu d).items) }
+    ensures numbers { IfOk result (λ r. (cpu : ℕ) (d : _) → cpu < seats → slice_index r.0.counts cpu ≡ length (slice_index_or r.1.items cpu d).items) }
     ensures named { IfOk result (λ r. All (λ m. m.entry.cpu.0 < seats) r.0.notes.items) }
 {
     let (lock, passes) = ClaimLock::new(alloc, Tally::new(alloc), seats)?;

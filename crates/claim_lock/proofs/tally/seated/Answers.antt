@@ -2,7 +2,8 @@ use Rattle.std.proofs.Common.{◌≡◌, ◌<◌, ℕ, ◌+◌, List, [], ◌∷
 use Rattle.std.proofs.Math.Seq.{get_or-append_seam}
 use Rattle.claim_lock.specs.declared.tally.Desk.{Desk}
 use Rattle.claim_lock.specs.Seen.{PassSeen}
-use Rattle.claim_lock.specs.Tallied.{Ready}
+use Rattle.event_core.specs.Moved.{Moved}
+use Rattle.claim_lock.specs.Tallied.{Ready, numbered}
 use Rattle.claim_lock.proofs.Lists.{each_push}
 use Rattle.claim_lock.proofs.tally.seated.Goals as goal
 
@@ -20,7 +21,7 @@ loop-pass-preserved c =
     let ready : Ready c.args.lock.now n (Some pass) [] = subst (λ (q : PassSeen). Ready c.args.lock.now n (Some q) []) seam (c.requires.ready n pass below) in
     let desk : Desk = record { cpu = c.loop-pass.cpu; pass = Some pass; made = c.new.result } in
     let P : ℕ → Desk → Type 0 = λ k a. (a.cpu ≡ k) × Ready c.args.lock.now k a.pass a.made.items in
-    let here : P (length c.loop-pass.desks.items) desk = (inv.at ∙ sym inv.count, (ready.0, ready.1 ∙ sym inv.count, ready.2 ∙ sym c.new.ensures.items, ready.3)) in
+    let here : P (length c.loop-pass.desks.items) desk = (inv.at ∙ sym inv.count, (ready.0, ready.1 ∙ sym inv.count, ready.2 ∙ sym c.new.ensures.items, ready.3, ready.4 ∙ ap (λ (l : List Moved). numbered (length l)) (sym c.new.ensures.items))) in
     let all : (k : ℕ) (d : Desk) → k < length (c.loop-pass.desks.items ++ desk ∷ []) → P k (get_or (c.loop-pass.desks.items ++ desk ∷ []) k d) = each_push P c.loop-pass.desks.items desk inv.ready here in
     record {
       all = items ∙ sym (append_assoc before (pass ∷ []) after);

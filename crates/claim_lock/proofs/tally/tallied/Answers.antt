@@ -6,6 +6,7 @@ use Rattle.claim_lock.specs.declared.tally.Tally.{Tally}
 use Rattle.claim_lock.specs.Rule.{nobody}
 use Rattle.claim_lock.specs.Seen.{PassSeen}
 use Rattle.claim_lock.specs.Tallied.{Ready, nothing_fixed, numbered}
+use Rattle.claim_lock.proofs.Passes.{number_of}
 use Rattle.claim_lock.proofs.Passes.{count_first, at_first}
 use Rattle.claim_lock.proofs.tally.tallied.Goals as goal
 
@@ -21,7 +22,7 @@ seated-requires-clause-ready g c =
     let made = c.in_ok-lock.ensures.passes in
     let count = count_first fixed part c.in_ok-lock.lock.table c.args.seats c.new.result c.in_ok-lock.passes.items made in
     let at = at_first fixed part c.in_ok-lock.lock.table c.args.seats c.new.result c.in_ok-lock.passes.items made k d (omega (arith, count)) in
-    subst (λ (q : PassSeen). Ready c.in_ok-lock.lock k (Some q) []) (sym at) (refl, refl, refl, sym c.in_ok-lock.ensures.lock)
+    subst (λ (q : PassSeen). Ready c.in_ok-lock.lock k (Some q) []) (sym at) (refl, refl, refl, sym c.in_ok-lock.ensures.lock, ap numbered (c.new.ensures.counts k (omega (arith, count))))
 
 pub seated-requires-clause-few : goal.seated-requires-clause-few
 seated-requires-clause-few g c =
@@ -64,6 +65,17 @@ returns-clause-entries g c =
     let ready = c.in_ok-passes.ensures.ready cpu none d here in
     let found = c.close.ensures cpu none there in
     ap (λ (n : ℕ). made_by n c.close.result.notes.items) (sym ready.1) ∙ (found.own_alone ∙ ready.2)
+
+pub returns-clause-numbers : goal.returns-clause-numbers
+returns-clause-numbers g c =
+    λ cpu d below.
+    let count = count_first fixed part c.in_ok-lock.lock.table c.args.seats c.new.result c.in_ok-lock.passes.items c.in_ok-lock.ensures.passes in
+    let here : cpu < length c.worked.new.desks.items = omega (arith, count, c.in_ok-desks.ensures.count, c.worked.ensures.count) in
+    let there : cpu < length c.in_ok-passes.passes.items = omega (arith, c.in_ok-passes.ensures.passes) in
+    let none : PassSeen = record { table = c.in_ok-lock.lock.table; known = nobody } in
+    let ready = c.in_ok-passes.ensures.ready cpu none d here in
+    let found = c.close.ensures cpu none there in
+    ap number_of (ap (λ (n : ℕ). numbered (get_or c.close.result.counts n 0)) (sym ready.1) ∙ (found.as_left ∙ ready.4))
 
 pub returns-clause-named : goal.returns-clause-named
 returns-clause-named g c =
