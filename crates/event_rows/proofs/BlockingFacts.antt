@@ -1,4 +1,4 @@
-use Rattle.std.proofs.Common.{◌≡◌, ℕ, Bool, Option, None, Some, List, [], refl}
+use Rattle.std.proofs.Common.{◌≡◌, ℕ, Option, None, Some, List, [], refl}
 use Rattle.std.specs.Prelude.{is_none}
 use Rattle.std.specs.Option.{option_and_then}
 use Rattle.guest_base.specs.declared.memory.Block.{Block}

@@ -9,5 +9,7 @@ pub mod PickLemmas
 pub mod PoolBootFacts
 pub mod PrintFacts
 pub mod RowLemmas
+pub mod SplitLemmas
+pub mod TouchFacts
 pub mod TwoFacts
 pub mod WaitingFacts

@@ -4,6 +4,7 @@ pub mod Bounces
 pub mod Conversions
 pub mod OnePage
 pub mod SmallMap
+pub mod Touched
 pub mod TwoAreas
 pub mod TwoProcessors
 pub mod Waiting

@@ -10,6 +10,7 @@ mod bounces;
 mod conversions;
 mod processors;
 mod steps;
+mod touches;
 mod waiting;
 
 pub use accepts::{
@@ -27,4 +28,8 @@ pub use processors::{
     both_accept_is_whole, claim_too_early_is_not, first_miscounted_is_not, second_miscounted_is_not,
 };
 pub use steps::blocked_whatever_is_answered;
+pub use touches::{
+    bounces_are_disjoint, bounces_touch_the_block, conversions_are_untouched,
+    conversions_touch_private_pages,
+};
 pub use waiting::{page_got_at_once_is_not, waiting_block_is_whole};
