@@ -33,8 +33,6 @@ pub record Mapping : Type 0 where
 pub record Own : Type 0 where
   pub blocks : List Holding
   pub mappings : List Mapping
-  -- how many commands have their reply
-  pub done : ℕ
   -- how many areas the present command has looked in, and found nothing
   pub looks : ℕ
   -- the block whose conversion has begun and not ended

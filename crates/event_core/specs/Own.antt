@@ -124,7 +124,7 @@ told _ m own = own
 
 -- a reply ends a command, and its looks count no more
 abbrev pub ended : Option Reply → Own → Own
-ended (Some reply) own = record own { done = own.done + 1; looks = 0 }
+ended (Some reply) own = record own { looks = 0 }
 ended None own = own
 
 -- what a processor has after one more entry of its own; the entry's command is that of its number in the script
@@ -133,7 +133,7 @@ own_step script own m = ended m.entry.reply (told (slice_get script m.entry.cmd)
 
 -- what a processor has at first
 abbrev pub nothing : Own
-nothing = record { blocks = []; mappings = []; done = 0; looks = 0; converting = None }
+nothing = record { blocks = []; mappings = []; looks = 0; converting = None }
 
 -- what a processor with this script has after its entries
 unfoldable pub own_of : List Command → List Moved → Own
