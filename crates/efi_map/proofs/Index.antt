@@ -7,7 +7,7 @@ use Rattle.std.proofs.lemmas.Option.{same_Some}
 use Rattle.std.proofs.lemmas.List.{get_or_append_left, length_push}
 use Rattle.std.proofs.lemmas.List.Elements.{All-push}
 use Rattle.std.proofs.lemmas.List.Quantifiers.{Any-push}
-use Rattle.std.specs.Bool.{OnTrue}
+use Rattle.std.specs.Bool.{OnTrue, OnFalse}
 use Rattle.std.specs.Option.{IsSome}
 use Rattle.std.specs.Ordering.{nat_cmp, is_gt, is_lt}
 use Rattle.std.specs.BTreeMap.{BTreeMap, get}
@@ -25,6 +25,10 @@ on_true : {P : Type 0} (b : Bool) → (b ≡ true → P) → OnTrue b P
 on_true true f = f refl
 on_true false f = tt
 
+on_false : {P : Type 0} (b : Bool) → (b ≡ false → P) → OnFalse b P
+on_false true f = tt
+on_false false f = f refl
+
 clear_of_last : (ends : Ends) (key end start last : ℕ) → AreRanges ends → ends key ≡ Some end → ((q : ℕ) → q ≤ last → IsSome (ends q) → q ≤ key) → end ≤ start → IsClear ends start last
 clear_of_last ends key end start last are at greatest le s e there below =
     let to : s ≤ key = greatest s below (rw there refl) in
@@ -40,6 +44,14 @@ clear_of_last ends key end start last are at greatest le s e there below =
 pub clear_at_last : (m : BTreeMap ℕ ℕ) (key end start last : ℕ) (front : List (ℕ × ℕ)) (found : List (ℕ × ℕ)) → AreRanges (get nat_cmp m) → IsRangeOf nat_cmp Unbounded (Included last) m found → found ≡ front ++ (key, end) ∷ [] → OnTrue (leb end start) (IsClear (get nat_cmp m) start last)
 clear_at_last m key end start last front found are of is =
     on_true (leb end start) (λ le. clear_of_last (get nat_cmp m) key end start last are (of.3 (key, end) front is).1 (λ q below some. not_above key q (of.4 (key, end) front is q (tt, within q last below) some)) (grind (arith, nat_tests)))
+
+not_past : (key last : ℕ) → is_gt (nat_cmp key last) ≡ false → key ≤ last
+not_past key last no-more = grind (arith, nat_tests)
+
+pub met_at_last : (m : BTreeMap ℕ ℕ) (key end start last : ℕ) (front : List (ℕ × ℕ)) (found : List (ℕ × ℕ)) → IsRangeOf nat_cmp Unbounded (Included last) m found → found ≡ front ++ (key, end) ∷ [] → OnFalse (leb end start) (¬ IsClear (get nat_cmp m) start last)
+met_at_last m key end start last front found of is =
+    let inside = of.3 (key, end) front is in
+    on_false (leb end start) (λ more clear. let le : end ≤ start = clear key end inside.1 (not_past key last inside.0.1) in grind (arith, nat_tests, le, more))
 
 overlap : (a b c d : ℕ) → nat_lt (max a c) (min b d) ≡ false → c < b → a < d → a < b → c < d → ⊥
 overlap a b c d none under over some wide = grind (arith, nat_tests)

@@ -1,5 +1,6 @@
 use super::*;
-use guest_base::{Level, PageRun, PageState, Pages};
+use event_core::{Descriptor, Descriptors, Hosts};
+use guest_base::{HostRun, Level, PageRun, PageState, Pages};
 use std::alloc::{AllocError, Global};
 use std::test::*;
 
@@ -160,6 +161,32 @@ fn reads_host_records(rt: HostRuntime) -> Result<(), Fail> {
     assert_eq!(rt; map.hosts.len(), 2);
     assert_eq!(rt; map.hosts.get(1).pages.first, 1);
     assert_eq!(rt; map.hosts.get(0).level, Level::Large);
+    Ok(())
+}
+
+#[test]
+fn reads_the_largest_map(rt: HostRuntime) -> Result<(), Fail> {
+    let mut descriptors = Descriptors::new(rt.alloc());
+    let mut hosts = Hosts::new(rt.alloc());
+    for place in 0..4096u64 {
+        let page = 4095 - place;
+        descriptors.try_push(Descriptor {
+            kind: 7,
+            start: page * 4096,
+            pages: 1,
+        })?;
+        let pages = Pages {
+            first: page,
+            count: 1,
+        };
+        let level = Level::Small;
+        hosts.try_push(HostRun { pages, level })?;
+    }
+    let bytes = write_map(rt.alloc(), &GuestMap { descriptors, hosts })?;
+    let map = read_map(rt.alloc(), bytes.as_slice())?;
+    assert_eq!(rt; map.hosts.len(), 4096);
+    let whole = run(0, 4096, PageState::Accepted);
+    assert_eq!(rt; map.ram(rt.alloc())?.as_slice(), [whole].as_slice());
     Ok(())
 }
 

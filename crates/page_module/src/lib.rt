@@ -13,3 +13,6 @@ pub use port::Port;
 pub use span::Span;
 pub use table::PageTable;
 pub use ticket::Ticket;
+
+#[cfg(test)]
+mod span_tests;

@@ -1,5 +1,6 @@
 //! A port in memory.
-ghost use Rattle.std.specs.Prelude.{◌≡◌, ◌+◌, ◌-◌, ◌<◌, ◌≤◌, ◌⊎◌, [], ◌∷◌, ◌++◌, vec_len, vec_capacity};
+ghost use Rattle.std.specs.Prelude.{◌≡◌, ◌+◌, ◌-◌, ◌<◌, ◌≤◌, ◌⊎◌, [], ◌∷◌, ◌++◌, ◌==◌, length, if◌then◌else◌, vec_len, vec_capacity};
+ghost use Rattle.std.specs.List.{list_any};
 ghost use Rattle.guest_base.specs.Counts.{Rose};
 ghost use Rattle.guest_base.specs.declared.memory.PageState.TheVariants.{Accepted};
 ghost use Rattle.page_module.specs.Spans.{BeginsPending};
@@ -35,8 +36,10 @@ impl MemPort {
         }
     }
 
-    /// The answer to the next call, where `honest` is the answer without a fault.
+    /// The answer to the next call: Failed where its number is in `failing`, else `honest`, the answer without
+    /// a fault.
     fn answer(&mut self, honest: PortAnswer) -> PortAnswer
+        ensures told { result ≡ (if list_any (λ call. call == length self.old.calls.items + 1) self.old.failing.items then PortAnswer.Failed else honest) }
         ensures answer { (result ≡ PortAnswer.Failed) ⊎ (result ≡ honest) }
         ensures failed { result ≡ PortAnswer.Failed → honest ≡ PortAnswer.Failed ⊎ Rose self.old.faults self.new.faults }
         ensures faults_kept { self.old.faults ≤ self.new.faults }
