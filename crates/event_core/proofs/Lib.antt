@@ -2,3 +2,5 @@ pub mod StepsLemmas
 pub mod StandingLemmas
 pub mod RangedLemmas
 pub mod SoundLemmas
+pub mod MapLemmas
+pub mod BootFacts

@@ -75,6 +75,13 @@ impl Span {
         self.ticket.pages
     }
 
+    /// The ticket of its taking.
+    pub fn ticket(&self) -> Ticket
+        ensures { result ≡ self.now.ticket }
+    {
+        self.ticket
+    }
+
     /// The state of a page of the span.
     pub fn state(&self, page: Page) -> PageState
         requires { in_range self.now.ticket.pages.first self.now.ticket.pages.count page.0 ≡ true }

@@ -1,0 +1,148 @@
+use Rattle.std.proofs.Common.{◌≡◌, ◌≢◌, ℕ, ◌+◌, ◌*◌, ◌/◌, ◌%◌, ◌^◌, ◌<◌, ◌≤◌, Bool, true, false, ◌&&◌, Option, None, Some, List, [], ◌∷◌, ◌++◌, refl, sym, ◌∙◌, ap, subst, inl, inr, arith, cond}
+use Rattle.std.specs.Prelude.{fold, ◌==◌, All, nat_lt, length, slice_index, slice_index_or}
+use Rattle.std.specs.List.{AllByRecursion}
+use Rattle.std.proofs.lemmas.Bool.{cases_Bool, cases_lt}
+use Rattle.std.proofs.lemmas.Bool.Decides.{nat_tests}
+use Rattle.guest_base.specs.Ranges.{in_range}
+use Rattle.guest_base.specs.declared.memory.Page.{Page}
+use Rattle.guest_base.specs.declared.memory.Pages.{Pages}
+use Rattle.guest_base.specs.declared.memory.Units.{Units}
+use Rattle.guest_base.specs.declared.memory.Block.{Block}
+use Rattle.guest_base.specs.declared.memory.Level.{Level}
+use Rattle.guest_base.specs.declared.memory.HostRun.{HostRun}
+use Rattle.guest_base.specs.declared.memory.PageState.{PageState}
+use Rattle.guest_base.specs.declared.memory.PageState.TheVariants.{Pending, Accepted, Shared}
+use Rattle.event_core.specs.declared.boot.Descriptor.{Descriptor}
+use Rattle.event_core.specs.declared.boot.Boot.{Boot}
+use Rattle.event_core.specs.declared.module_call.CallKind.{CallKind}
+use Rattle.event_core.specs.declared.module_call.CallKind.TheVariants.{Accept, Share, Unshare}
+use Rattle.event_core.specs.declared.module_call.ModuleCall.{ModuleCall}
+use Rattle.event_core.specs.Acceptance.{AcceptanceSteps, goes_on_at, tried_at}
+use Rattle.event_core.specs.Boot.{BootRight, InTurn, StagePart, Stage, Early, PoolAccepted, PoolShared, BlockAccepted, AcceptsRun, AcceptsRange, SharesPool, set_runs}
+use Rattle.event_core.specs.Calls.{States, is_done, covers, after_call, state_after, state_before, state_made, SoundCalls, IsSound}
+use Rattle.event_core.specs.Map.{MapRules, first_state}
+use Rattle.event_core.specs.MemoryRows.{page_state, is_pending}
+use Rattle.event_core.specs.Runs.{AreMaximalRuns, state_in}
+use Rattle.event_core.specs.Stub.{default_unit, unaccepted, least_start, stub_base, stub_bit}
+use Rattle.event_core.specs.Units.{bit_of, is_marked, mark_step, unit_count, unit_first, unit_pages, guarded_units}
+use Rattle.event_core.proofs.MapLemmas.{first_none, any_pending, pending_first}
+
+-- Facts about what boot makes of a map that meets its rules.
+
+-- ---- RAM and unaccepted units
+
+-- RAM lies below 2^28 pages
+pub ram-low : (map : List Descriptor) (hosts : List HostRun) (slots areas cpus : ℕ) (boot : Boot) → MapRules map hosts → BootRight map hosts slots areas cpus boot → (page : ℕ) → state_in boot.ram page ≢ None → page < 2 ^ 28
+ram-low map hosts slots areas cpus boot rules right page some =
+    elim (cases_lt page (2 ^ 28)) [
+      | inl low ↦ low
+      | inr high ↦ absurd (some (right.ram.each page ∙ first_none map page rules.each high))
+    ]
+
+-- a page of a unit lies in the unit's bytes
+record InUnit (at page : ℕ) : Type 0 where
+  pub low : at ≤ 4096 * page
+  pub high : 4096 * page < at + 2097152
+  pub even : at % 4096 ≡ 0
+
+in_unit : (base size unit least page : ℕ) → size ≡ 2097152 → base ≡ least / 2097152 * 2097152 → in_range (base / 4096 + unit * (size / 4096)) (size / 4096) page ≡ true → InUnit (base + unit * 2097152) page
+in_unit base size unit least page is down inside =
+    let pages : size / 4096 ≡ 512 = ap (λ s. s / 4096) is in
+    let here : in_range (base / 4096 + unit * 512) 512 page ≡ true = rw pages at inside in
+    record { low = grind (arith, nat_tests); high = grind (arith, nat_tests); even = omega (arith, down) }
+
+first-both : (b c : Bool) → (b && c) ≡ true → b ≡ true
+first-both true c h = refl
+first-both false c h = cc
+
+lt-of : (a b : ℕ) → nat_lt a b ≡ true → a < b
+lt-of a b h = grind arith
+
+-- the pages of a set unit are pending at first
+pub set-pending : (map : List Descriptor) (hosts : List HostRun) (slots areas cpus : ℕ) (boot : Boot) → MapRules map hosts → BootRight map hosts slots areas cpus boot → (unit page : ℕ) → bit_of boot.bits unit ≡ true → in_range (unit_first boot unit) (unit_pages boot) page ≡ true → state_in boot.ram page ≡ Some Pending
+set-pending map hosts slots areas cpus boot rules right unit page set inside =
+    let at = in_unit boot.base boot.unit unit (least_start (unaccepted map)) page right.unit right.base inside in
+    let below = lt-of unit (unit_count boot.bits) (first-both _ _ set) in
+    let is : stub_bit map unit ≡ true = sym (right.bits unit below) ∙ set in
+    let place : boot.base + unit * 2097152 ≡ stub_base map + unit * default_unit = ap (λ base. base + unit * 2097152) right.base in
+    let unit_at = subst (λ a. InUnit a page) place at in
+    right.ram.each page ∙ pending_first map page (any_pending (stub_base map + unit * default_unit) page map rules.each is unit_at.low unit_at.high unit_at.even)
+
+-- ---- boot makes no unshare call
+
+abbrev pub IsNoUnshare : ModuleCall → Type 0
+IsNoUnshare call = call.kind ≢ Unshare
+
+all-append : {A : Type 0} (P : A → Type 0) (xs ys : List A) → AllByRecursion P xs → AllByRecursion P ys → AllByRecursion P (xs ++ ys)
+all-append P [] ys left right = right
+all-append P (x ∷ xs) ys left right = (left.0, all-append P xs ys left.1 right)
+
+-- what holds of the calls of each part holds of the calls of all
+in-turn-all : {Item : Type 0} (Part : List ModuleCall → Item → List ModuleCall → Option Page → Type 0) (P : ModuleCall → Type 0) → ((done : List ModuleCall) (item : Item) (now : List ModuleCall) (stop : Option Page) → Part done item now stop → AllByRecursion P now)
+    → (done : List ModuleCall) (items : List Item) (calls : List ModuleCall) (stop : Option Page) → InTurn Part done items calls stop → AllByRecursion P calls
+in-turn-all Part P each done [] calls stop turn = subst (AllByRecursion P) (sym turn.0) tt
+in-turn-all Part P each done (item ∷ items) calls stop (inl stopped) = each done item calls (Some stopped.0) stopped.1
+in-turn-all Part P each done (item ∷ items) calls stop (inr (now, later, is, part, rest)) =
+    subst (AllByRecursion P) (sym is) (all-append P now later (each done item now None part) (in-turn-all Part P each (done ++ now) items later stop rest))
+
+kind-accept : (kind : CallKind) → kind ≡ Accept → kind ≢ Unshare
+kind-accept Accept is = λ no. cc
+kind-accept Share is = cc
+kind-accept Unshare is = cc
+
+steps-all : (hosts : List HostRun) (set : ℕ → Bool) (end from : ℕ) (tried : Option Level) (calls : List ModuleCall) → AcceptanceSteps hosts set end from tried calls → AllByRecursion IsNoUnshare calls
+steps-all hosts set end from tried [] steps = tt
+steps-all hosts set end from tried (call ∷ calls) steps = (kind-accept call.kind steps.2.kind, steps-all hosts set end (goes_on_at call) (tried_at call) calls steps.4)
+
+range-all : (boot : Boot) (done : List ModuleCall) (start len : ℕ) (calls : List ModuleCall) (stop : Option Page) → AcceptsRange boot done start len calls stop → AllByRecursion IsNoUnshare calls
+range-all boot done start len calls stop turn =
+    in-turn-all (AcceptsRun boot) IsNoUnshare (λ before run now stopped part. steps-all boot.hosts _ _ _ None now part.0) done (set_runs boot done (guarded_units boot start len)) calls stop turn
+
+shared-all : (pool : Pages) (calls : List ModuleCall) (stop : Option Page) → SharesPool pool calls stop → AllByRecursion IsNoUnshare calls
+shared-all pool calls None is = subst (AllByRecursion IsNoUnshare) (sym is) ((λ no. cc), tt)
+shared-all pool calls (Some page) is = subst (AllByRecursion IsNoUnshare) (sym is.0) ((λ no. cc), tt)
+
+block-all : (boot : Boot) (done : List ModuleCall) (block : Block) (calls : List ModuleCall) (stop : Option Page) (ten : Bool) → elim ten as (λ _. Type 0) [ true ↦ (calls ≡ []) × (stop ≡ None) | false ↦ AcceptsRange boot done (4096 * block.first) (4096 * 2 ^ block.order) calls stop ] → AllByRecursion IsNoUnshare calls
+block-all boot done block calls stop true part = subst (AllByRecursion IsNoUnshare) (sym part.0) tt
+block-all boot done block calls stop false part = range-all boot done _ _ calls stop part
+
+stage-all : (boot : Boot) (done : List ModuleCall) (stage : Stage) (calls : List ModuleCall) (stop : Option Page) → StagePart boot done stage calls stop → AllByRecursion IsNoUnshare calls
+stage-all boot done (Early pages) calls stop part = steps-all boot.hosts _ _ _ None calls part.0
+stage-all boot done (PoolAccepted pages) calls stop part = range-all boot done _ _ calls stop part
+stage-all boot done (PoolShared pages) calls stop part = shared-all pages calls stop part
+stage-all boot done (BlockAccepted block) calls stop part = block-all boot done block calls stop (block.order == 10) part
+
+pub boot-no-unshare : (map : List Descriptor) (hosts : List HostRun) (slots areas cpus : ℕ) (boot : Boot) → BootRight map hosts slots areas cpus boot → AllByRecursion IsNoUnshare boot.calls
+boot-no-unshare map hosts slots areas cpus boot right = in-turn-all (StagePart boot) IsNoUnshare (stage-all boot) [] _ boot.calls None right.made.stages
+
+-- ---- what is unaccepted is pending
+
+both-second : (b c : Bool) → (b && c) ≡ true → c ≡ true
+both-second true c h = h
+both-second false c h = cc
+
+shared-mark : (b marked : Bool) (s : Option PageState) → marked ≡ is_pending s → (b ≡ true → s ≡ Some Accepted) → marked ≡ is_pending (cond b (Some Shared) s)
+shared-mark true marked s is sound = is ∙ ap is_pending (sound refl)
+shared-mark false marked s is sound = is
+
+accept-mark : (b marked : Bool) (s : Option PageState) → marked ≡ is_pending s → cond b false marked ≡ is_pending (cond b (Some Accepted) s)
+accept-mark true marked s is = refl
+accept-mark false marked s is = is
+
+mark-one : (page : ℕ) (call : ModuleCall) (marked : Bool) (states : States) (kind : CallKind) → call.kind ≡ kind → kind ≢ Unshare → marked ≡ is_pending (states page) → (covers call page ≡ true → states page ≡ Some (state_before kind))
+    → elim kind as (λ _. Bool) [ Accept ↦ cond (is_done call && covers call page) false marked | Share ↦ marked | Unshare ↦ marked ] ≡ is_pending (cond (is_done call && covers call page) (Some (state_made kind)) (states page))
+mark-one page call marked states Accept kind not is sound = accept-mark (is_done call && covers call page) marked (states page) is
+mark-one page call marked states Share kind not is sound = shared-mark (is_done call && covers call page) marked (states page) is (λ b. sound (both-second (is_done call) (covers call page) b))
+mark-one page call marked states Unshare kind not is sound = absurd (not refl)
+
+marks-sound : (page : ℕ) (calls : List ModuleCall) (marked : Bool) (states : States) → marked ≡ is_pending (states page) → SoundCalls states calls → AllByRecursion IsNoUnshare calls → fold (mark_step page) marked calls ≡ is_pending (state_after states calls page)
+marks-sound page [] marked states is sound all = is
+marks-sound page (call ∷ calls) marked states is sound all =
+    marks-sound page calls (mark_step page marked call) (after_call states call)
+    (mark-one page call marked states call.kind refl all.0 is (λ covered. sound.0 page covered)) sound.1 all.1
+
+-- after sound calls of boot a page of a set unit is unaccepted exactly where it is pending
+pub boot-marks : (map : List Descriptor) (hosts : List HostRun) (slots areas cpus : ℕ) (boot : Boot) → MapRules map hosts → BootRight map hosts slots areas cpus boot → SoundCalls (state_in boot.ram) boot.calls
+    → (unit page : ℕ) → bit_of boot.bits unit ≡ true → in_range (unit_first boot unit) (unit_pages boot) page ≡ true → is_marked true boot.calls page ≡ is_pending (page_state boot boot.calls page)
+boot-marks map hosts slots areas cpus boot rules right sound unit page set inside =
+    marks-sound page boot.calls true (state_in boot.ram) (sym (ap is_pending (set-pending map hosts slots areas cpus boot rules right unit page set inside))) sound (boot-no-unshare map hosts slots areas cpus boot right)

@@ -1,0 +1,14 @@
+pub mod RunLemmas
+pub mod ClearLemmas
+pub mod UnitsLemmas
+pub mod HoldsLemmas
+pub mod CountLemmas
+pub mod BitsLemmas
+pub mod StepLemmas
+pub mod OpenLemmas
+pub mod BeginLemmas
+pub mod ReportLemmas
+pub mod CloseLemmas
+pub mod PartsLemmas
+pub mod BegunLemmas
+pub mod ReportedLemmas

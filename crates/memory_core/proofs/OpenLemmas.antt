@@ -1,0 +1,183 @@
+use Rattle.std.proofs.Common.{◌≡◌, ◌≢◌, ℕ, zero, suc, ◌+◌, ◌-◌, ◌*◌, ◌<◌, ◌≤◌, Bool, true, false, Option, None, Some, List, [], ◌∷◌, refl, sym, ◌∙◌, ap, subst, inl, inr, arith, cond, length, max, min}
+use Rattle.std.specs.Prelude.{nat_lt, slice_set, slice_index_or, map, Vec}
+use Rattle.std.specs.declared.alloc.Global.{Global}
+use Rattle.std.specs.Option.{option_map}
+use Rattle.std.proofs.Math.ListN.{get_or-map}
+use Rattle.std.proofs.lemmas.Bool.{cases_Bool}
+use Rattle.std.proofs.lemmas.List.{get_or-set_same, get_or-set_other}
+use Rattle.guest_base.specs.Ranges.{in_range}
+use Rattle.guest_base.proofs.SearchLemmas.{first_such_none, first_such_is}
+use Rattle.guest_base.specs.declared.memory.Pages.{Pages}
+use Rattle.guest_base.specs.declared.memory.PageRun.{PageRun}
+use Rattle.guest_base.specs.declared.memory.Units.{Units}
+use Rattle.event_core.specs.declared.boot.Boot.{Boot}
+use Rattle.event_core.specs.declared.entry.Entry.{Entry}
+use Rattle.event_core.specs.declared.module_call.ModuleCall.{ModuleCall}
+use Rattle.event_core.specs.Claims.{Claimed, claim_of, claim_meets, in_the_way, units_meet}
+use Rattle.event_core.specs.MemoryRows.{page_state, pages_first, pages_count}
+use Rattle.event_core.specs.Units.{unit_pages, units_end}
+use Rattle.page_module.specs.Spans.{Taken}
+use Rattle.page_module.specs.States.{state_in}
+use Rattle.page_module.specs.Tables.{Table, run_count}
+use Rattle.page_module.proofs.CopyLemmas.{run_count-few}
+use Rattle.unaccepted_bitmap.specs.BitmapValue.{Bits}
+use Rattle.accepting_ranges.specs.Claims.{range_of, Meet, MeetsNone}
+use Rattle.memory_core.specs.Bitmaps.{bits_in, MeetsNoneOf, IsFirstMet}
+use Rattle.memory_core.specs.Steps.{HasStates, pages_of}
+use Rattle.memory_core.specs.StandsFor.{StandsFor, IsIn, kept_by, pieces_for, handed_for}
+use Rattle.memory_core.specs.declared.claims.OpenClaim.{OpenClaim}
+use Rattle.memory_core.proofs.HoldsLemmas.{open-kept, kept-open, other-unit}
+use Rattle.memory_core.proofs.UnitsLemmas.{in_range-elim, runs-apart}
+use Rattle.memory_core.proofs.StepLemmas.{fewer}
+
+-- ---- claimed ranges and open claims
+
+lt-of : (a b : ℕ) → nat_lt a b ≡ true → a < b
+lt-of a b h = grind arith
+
+pub apart-of : (a b : Units) → ¬ Meet a b → units_meet a b ≡ false
+apart-of a b apart =
+    elim (cases_Bool (units_meet a b)) [
+      | inl t ↦
+          (let met = lt-of (max a.first b.first) (min (units_end a) (units_end b)) t in
+          absurd (apart (max a.first b.first, (omega arith, omega (arith, met)), (omega arith, omega (arith, met)))))
+      | inr f ↦ f
+    ]
+
+pub met-of : (a b : Units) → Meet a b → units_meet a b ≡ true
+met-of a b (unit, in_a, in_b) = grind (arith, in_a.0, in_a.1, in_b.0, in_b.1)
+
+pub meets-swap : (a b : Units) → ¬ Meet a b → ¬ Meet b a
+meets-swap a b apart (unit, in_b, in_a) = apart (unit, in_a, in_b)
+
+-- who has an item has a place
+pub item-inside : {A : Type 0} (xs : List (Option A)) (i : ℕ) (x : A) → slice_index_or xs i None ≡ Some x → i < length xs
+item-inside [] zero x h = cc
+item-inside [] (suc i) x h = cc
+item-inside (y ∷ xs) zero x h = omega arith
+item-inside (y ∷ xs) (suc i) x h = omega (arith, item-inside xs i x h)
+
+no_none : {A : Type 0} (o : Option A) (x : A) → o ≡ None → o ≡ Some x → ⊥
+no_none o x none some = let no : None ≡ Some x = sym none ∙ some in cc
+
+mapped-some : (k : Option OpenClaim) (units : Units) → option_map (λ (c : OpenClaim). c.units) k ≡ Some units → (o : OpenClaim) × (k ≡ Some o) × (o.units ≡ units)
+mapped-some None units h = cc
+mapped-some (Some o) units h = (o, refl, (let same : Some o.units ≡ Some units = h in cc))
+
+module _ (boot : Boot) (entries : Vec Entry Global) (last : ℕ) (table : Table) (bits : Option Bits) (ranges : List (Option Units)) (claims : List (Option OpenClaim)) (pages kept room : ℕ) (s : StandsFor boot entries last table bits ranges claims pages kept room) where
+  pub open-range : (cpu : ℕ) (claim : Claimed) → claim_of boot entries.items cpu ≡ Some claim → range_of ranges cpu ≡ Some claim.units
+  open-range cpu claim is =
+      let found = open-kept boot (bits_in bits) table.out (kept_by claims cpu) (claim_of boot entries.items cpu) claim is (s.holds.open_claims cpu) in
+      s.ranges_are cpu ∙ ap (option_map (λ (c : OpenClaim). c.units)) found.1 ∙ ap (λ u. Some u) found.2.units
+
+  pub open-low : (cpu : ℕ) (claim : Claimed) → claim_of boot entries.items cpu ≡ Some claim → cpu < boot.cpus
+  open-low cpu claim is =
+      let found = open-kept boot (bits_in bits) table.out (kept_by claims cpu) (claim_of boot entries.items cpu) claim is (s.holds.open_claims cpu) in
+      let low = item-inside claims cpu found.0 found.1 in
+      omega (arith, low, s.places)
+
+  pub range-open : (cpu : ℕ) (units : Units) → range_of ranges cpu ≡ Some units → (claim : Claimed) × (claim_of boot entries.items cpu ≡ Some claim) × (claim.units ≡ units)
+  range-open cpu units is =
+      let kept_one = mapped-some (kept_by claims cpu) units (sym (s.ranges_are cpu) ∙ is) in
+      let found = kept-open boot (bits_in bits) table.out (kept_by claims cpu) (claim_of boot entries.items cpu) kept_one.0 kept_one.1 (s.holds.open_claims cpu) in
+      (found.0, found.1, sym found.2.units ∙ kept_one.2)
+
+  -- a range that meets no claimed one meets no open claim
+  pub clear-of : (units : Units) → MeetsNone ranges units → (cpu : ℕ) (claim : Claimed) → claim_of boot entries.items cpu ≡ Some claim → ¬ Meet claim.units units
+  clear-of units none cpu claim is = none cpu claim.units (open-range cpu claim is)
+
+  meets-none : (units : Units) (cpu : ℕ) (claim : Option Claimed) → claim_of boot entries.items cpu ≡ claim → MeetsNone ranges units → claim_meets units claim ≡ false
+  meets-none units cpu None is none = refl
+  meets-none units cpu (Some claim) is none = apart-of claim.units units (clear-of units none cpu claim is)
+
+  pub way-none : (units : Option Units) → MeetsNoneOf ranges units → in_the_way boot entries.items units ≡ None
+  unfolding in_the_way
+  way-none None none = refl
+  way-none (Some units) none = first_such_none (λ cpu. claim_meets units (claim_of boot entries.items cpu)) 0 boot.cpus (record { fails = λ n low high. meets-none units n (claim_of boot entries.items n) refl none })
+
+  meets-before : (units : Units) (cpu : ℕ) (claim : Option Claimed) → claim_of boot entries.items cpu ≡ claim → ((earlier : Units) → range_of ranges cpu ≡ Some earlier → ¬ Meet earlier units) → claim_meets units claim ≡ false
+  meets-before units cpu None is none = refl
+  meets-before units cpu (Some claim) is none = apart-of claim.units units (none claim.units (open-range cpu claim is))
+
+  pub record MetBy (units : Option Units) (met : Units) : Type 0 where
+    pub cpu : ℕ
+    pub claim : Claimed
+    pub first : in_the_way boot entries.items units ≡ Some cpu
+    pub claimed : claim_of boot entries.items cpu ≡ Some claim
+    pub same : claim.units ≡ met
+
+  pub way-some : (units : Option Units) (met : Units) → IsFirstMet ranges units met → MetBy units met
+  unfolding in_the_way
+  way-some None met first = absurd first
+  way-some (Some units) met first =
+      let found = range-open first.cpu met first.held in
+      let meets : Meet found.0.units units = subst (λ u. Meet u units) (sym found.2) first.meets in
+      record {
+        cpu = first.cpu;
+        claim = found.0;
+        first = first_such_is (λ cpu. claim_meets units (claim_of boot entries.items cpu)) 0 boot.cpus first.cpu (record {
+          low = omega arith;
+          high = omega (arith, open-low first.cpu found.0 found.1);
+          passes = ap (claim_meets units) found.1 ∙ met-of found.0.units units meets;
+          before = λ n low high. meets-before units n (claim_of boot entries.items n) refl (λ earlier. first.before n earlier high);
+        });
+        claimed = found.1;
+        same = found.2;
+      }
+
+-- ---- room
+
+pub room-take : (up room count few table : ℕ) → 0 < count → count ≤ room → few ≤ count * up → pieces_for up room ≤ table → 2 * few + 2 ≤ table
+room-take up room count few table some less fits has =
+    let enough : count * (2 * up + 2) ≤ room * (2 * up + 2) = fewer count room (2 * up + 2) less in
+    omega (arith, enough, fits, has, some)
+
+pub room-left : (up room count few left ticket table : ℕ) → 0 < count → count ≤ room → left ≡ room - count → few ≤ count * up → pieces_for up room ≤ table → table ≤ ticket + (2 * few + 2) → pieces_for up left ≤ ticket
+room-left up room count few left ticket table some less is fits has given =
+    let both : left + count ≡ room = omega (arith, less, is) in
+    let all : room * (2 * up + 2) ≡ left * (2 * up + 2) + count * (2 * up + 2) = ap (λ n. n * (2 * up + 2)) (sym both) ∙ (let e : (left + count) * (2 * up + 2) ≡ left * (2 * up + 2) + count * (2 * up + 2) = omega arith in e) in
+    omega (arith, all, fits, has, given, some)
+
+-- the runs of one state among the pages of a run of units
+pub runs-few : (boot : Boot) (run : Units) (runs : List PageRun) (pages : Pages) → pages ≡ pages_of boot run → run_count (state_in runs) pages ≤ run.count * unit_pages boot
+runs-few boot run runs pages is = let few = run_count-few (state_in runs) pages in let size : pages.count ≡ run.count * unit_pages boot = ap (λ (p : Pages). p.count) is in omega (arith, few, size)
+
+-- ---- the pages of a run of set bits that is claimed by nobody else
+
+pub run-in : (boot : Boot) (claims : ℕ → Option Claimed) (claim : Claimed) (page : ℕ) → claim.units.first ≤ claim.run.first → units_end claim.run ≤ units_end claim.units
+    → ((d : ℕ) (b : Claimed) → claims d ≡ Some b → (b.units.first ≤ b.run.first) × (units_end b.run ≤ units_end b.units) × (units_meet claim.units b.units ≡ false))
+    → in_range (pages_first boot claim.run) (pages_count boot claim.run) page ≡ true → IsIn boot claims page
+run-in boot claims claim page low within others inside d b is =
+    let other = others d b is in
+    runs-apart boot claim.run b.run page
+    (λ unit in_run. let at = in_range-elim claim.run.first claim.run.count unit in_run in other-unit b claim unit other.0 other.1 other.2 (omega (arith, low, at.0)) (omega (arith, within, at.1)))
+    inside
+
+if-in : {A : Type 0} (b : Bool) (x y : A) (z : A) → (b ≡ true → x ≡ y) → cond b x z ≡ cond b y z
+if-in true x y z h = h refl
+if-in false x y z h = refl
+
+-- what a span has that was taken for such a run
+pub has-states : (boot : Boot) (calls : List ModuleCall) (claims : ℕ → Option Claimed) (run : Units) (pages : Pages) (runs : List PageRun) (span : Taken)
+    → pages ≡ pages_of boot run → span.ticket.pages ≡ pages
+    → ((page : ℕ) → state_in span.runs page ≡ cond (in_range pages.first pages.count page) (state_in runs page) None)
+    → ((page : ℕ) → in_range (pages_first boot run) (pages_count boot run) page ≡ true → IsIn boot claims page)
+    → ((page : ℕ) → IsIn boot claims page → state_in runs page ≡ page_state boot calls page)
+    → HasStates boot calls run span
+has-states boot calls claims run pages runs span is taken states here holds = record {
+  pages = taken ∙ is;
+  states = λ page.
+      states page ∙ ap (λ (p : Pages). cond (in_range p.first p.count page) (state_in runs page) None) is
+      ∙ if-in (in_range (pages_first boot run) (pages_count boot run) page) (state_in runs page) (page_state boot calls page) None (λ inside. holds page (here page inside));
+}
+
+-- ---- what is kept for processors
+
+pub kept-same : (claims : List (Option OpenClaim)) (cpu : ℕ) (k : Option OpenClaim) → cpu < length claims → kept_by (slice_set claims cpu k) cpu ≡ k
+kept-same claims cpu k low = get_or-set_same claims cpu k None low
+
+pub kept-other : (claims : List (Option OpenClaim)) (cpu other : ℕ) (k : Option OpenClaim) → other ≢ cpu → kept_by (slice_set claims cpu k) other ≡ kept_by claims other
+kept-other claims cpu other k differ = get_or-set_other claims cpu other k None differ
+
+pub handed-is : (claims : List (Option OpenClaim)) (cpu : ℕ) → slice_index_or (map handed_for claims) cpu None ≡ handed_for (kept_by claims cpu)
+handed-is claims cpu = get_or-map handed_for claims cpu None

@@ -1,0 +1,124 @@
+use Rattle.std.proofs.Common.{◌≡◌, ℕ, zero, suc, ◌+◌, ◌≤◌, Option, None, Some, List, [], ◌∷◌, ◌++◌, refl, sym, ◌∙◌, ap, subst, arith, length}
+use Rattle.std.specs.Prelude.{sum_by, slice_index_or, map, ◌/◌, Vec}
+use Rattle.std.specs.declared.alloc.Global.{Global}
+use Rattle.std.specs.Option.{option_map}
+use Rattle.std.proofs.Common.{append-nil}
+use Rattle.std.proofs.lemmas.List.Sums.{sum_by-cons}
+use Rattle.guest_base.specs.declared.memory.HostRun.{HostRun}
+use Rattle.guest_base.specs.declared.memory.Units.{Units}
+use Rattle.event_core.specs.declared.boot.Boot.{Boot}
+use Rattle.event_core.specs.declared.boot.Descriptor.{Descriptor}
+use Rattle.event_core.specs.declared.entry.Entry.{Entry}
+use Rattle.event_core.specs.declared.module_call.ModuleCall.{ModuleCall}
+use Rattle.event_core.specs.Boot.{BootRight}
+use Rattle.event_core.specs.Calls.{calls_of, SoundCalls}
+use Rattle.event_core.specs.Claims.{claim_of}
+use Rattle.event_core.specs.Map.{MapRules}
+use Rattle.event_core.specs.MemoryRows.{page_state}
+use Rattle.event_core.specs.Runs.{state_in as first_state_of}
+use Rattle.event_core.specs.Units.{unit_pages}
+use Rattle.event_core.proofs.BootFacts.{set-pending, ram-low, boot-marks}
+use Rattle.page_module.specs.States.{state_in}
+use Rattle.page_module.specs.Tables.{Table}
+use Rattle.page_module.specs.declared.ticket.Ticket.{Ticket}
+use Rattle.unaccepted_bitmap.specs.BitmapValue.{Bits}
+use Rattle.accepting_ranges.specs.Claims.{range_of}
+use Rattle.memory_core.specs.Bitmaps.{bits_in, BitsAfter}
+use Rattle.memory_core.specs.Booted.{IsBooted}
+use Rattle.memory_core.specs.Steps.{last_stamp}
+use Rattle.std.proofs.lemmas.List.{length_push}
+use Rattle.memory_core.specs.StandsFor.{StandsFor, HoldsFor, kept_by, spans_of, reports_of, handed_for}
+use Rattle.memory_core.specs.declared.claims.OpenClaim.{OpenClaim}
+use Rattle.memory_core.proofs.HoldsLemmas.{stands-none}
+use Rattle.memory_core.proofs.OpenLemmas.{handed-is}
+
+sum-none : (f : Option OpenClaim → ℕ) (claims : List (Option OpenClaim)) → f None ≡ 0 → ((cpu : ℕ) → kept_by claims cpu ≡ None) → sum_by f claims ≡ 0
+sum-none f [] zero_at none = refl
+sum-none f (k ∷ claims) zero_at none =
+    let first : f k ≡ 0 = ap f (none 0) ∙ zero_at in
+    let rest = sum-none f claims zero_at (λ cpu. none (suc cpu)) in
+    sum_by-cons f k claims ∙ omega (arith, first, rest)
+
+-- where nothing is kept nothing is out
+pub no-spans : (claims : List (Option OpenClaim)) → ((cpu : ℕ) → kept_by claims cpu ≡ None) → sum_by spans_of claims ≡ 0
+no-spans claims none = sum-none spans_of claims refl none
+
+pub empty : {A : Type 0} (xs : List A) → length xs ≡ 0 → xs ≡ []
+empty [] h = refl
+empty (x ∷ xs) h = absurd (omega (arith, h))
+
+-- so many places with nothing kept
+pub record NothingKept (claims : List (Option OpenClaim)) (count : ℕ) : Type 0 where
+  pub places : length claims ≡ count
+  pub none : (cpu : ℕ) → kept_by claims cpu ≡ None
+
+none-in : (cpu : ℕ) → kept_by [] cpu ≡ None
+none-in zero = refl
+none-in (suc cpu) = refl
+
+pub nothing-start : (claims : List (Option OpenClaim)) → claims ≡ [] → NothingKept claims 0
+nothing-start claims is = subst (λ cs. NothingKept cs 0) (sym is) (record { places = refl; none = none-in })
+
+none-push : (claims : List (Option OpenClaim)) → ((cpu : ℕ) → kept_by claims cpu ≡ None) → (cpu : ℕ) → kept_by (claims ++ None ∷ []) cpu ≡ None
+none-push [] none zero = refl
+none-push [] none (suc cpu) = none-in cpu
+none-push (k ∷ claims) none zero = none 0
+none-push (k ∷ claims) none (suc cpu) = none-push claims (λ n. none (suc n)) cpu
+
+pub nothing-more : (claims claims' : List (Option OpenClaim)) (count : ℕ) → NothingKept claims count → claims' ≡ claims ++ None ∷ [] → NothingKept claims' (count + 1)
+nothing-more claims claims' count kept is =
+    subst (λ cs. NothingKept cs (count + 1)) (sym is)
+    (record { places = length_push claims None ∙ ap (λ n. n + 1) kept.places; none = none-push claims kept.none })
+
+pub new-out : (claims : List (Option OpenClaim)) (count : ℕ) → NothingKept claims count → (cpu : ℕ) → slice_index_or (map handed_for claims) cpu None ≡ None
+new-out claims count kept cpu = handed-is claims cpu ∙ ap handed_for (kept.none cpu)
+
+no-claim : (boot : Boot) (entries : List Entry) → entries ≡ [] → (cpu : ℕ) → claim_of boot entries cpu ≡ None
+unfolding claim_of
+no-claim boot entries is cpu = ap (λ es. claim_of boot es cpu) is
+
+pub booted : (map : List Descriptor) (hosts : List HostRun) (slots areas cpus : ℕ) (boot : Boot) → MapRules map hosts → BootRight map hosts slots areas cpus boot → boot.cpus ≤ 64 → IsBooted boot
+booted map hosts slots areas cpus boot rules right few =
+    let size : unit_pages boot ≡ 512 = ap (λ u. u / 4096) right.unit in
+    record {
+      pending = set-pending map hosts slots areas cpus boot rules right;
+      low = ram-low map hosts slots areas cpus boot rules right;
+      some = omega (arith, size);
+      small = omega (arith, size);
+      cpus = few;
+    }
+
+-- the memory of a boot
+pub new-stands : (descriptors : List Descriptor) (hosts : List HostRun) (slots areas cpus : ℕ) (boot value : Boot) (entries : Vec Entry Global) (table : Table) (bits : Option Bits) (ranges : List (Option Units)) (claims : List (Option OpenClaim))
+    → value ≡ boot → MapRules descriptors hosts → BootRight descriptors hosts slots areas cpus boot → SoundCalls (first_state_of boot.ram) boot.calls → boot.cpus ≤ 64
+    → ((page : ℕ) → state_in table.runs page ≡ page_state boot boot.calls page) → table.out ≡ [] → BitsAfter boot boot.calls bits
+    → ((cpu : ℕ) → range_of ranges cpu ≡ None) → NothingKept claims boot.cpus → entries.items ≡ []
+    → StandsFor value entries 0 table bits ranges claims (boot.unit / 4096) 0 0
+new-stands descriptors hosts slots areas cpus boot value entries table bits ranges claims same rules right sound few states none_out after free kept none =
+    let calls : calls_of boot entries.items ≡ boot.calls = ap (calls_of boot) none ∙ append-nil boot.calls in
+    let reports = sum-none reports_of claims refl kept.none in
+    let long = ap (λ (es : List Entry). length es) none in
+    let P : List ModuleCall → Type 0 = λ cs. HoldsFor boot cs (claim_of boot entries.items) table.runs table.out (bits_in bits) (kept_by claims) in
+    let Q : Boot → Type 0 = λ b. StandsFor b entries 0 table bits ranges claims (boot.unit / 4096) 0 0 in
+    subst Q (sym same)
+    (record {
+      booted = booted descriptors hosts slots areas cpus boot rules right few;
+      holds = subst P (sym calls)
+          (record {
+            bits = after.set;
+            marks = boot-marks descriptors hosts slots areas cpus boot rules right sound;
+            states = λ page inside. states page;
+            open_claims = λ cpu. stands-none boot (bits_in bits) table.out (kept_by claims cpu) (claim_of boot entries.items cpu) (kept.none cpu) (no-claim boot entries.items none cpu);
+            apart = λ c d a b differ is_a is_b. let no : None ≡ Some a = sym (no-claim boot entries.items none c) ∙ is_a in cc;
+          });
+      same_bits = after.same;
+      last_is = sym (ap last_stamp none);
+      places = kept.places;
+      ranges_are = λ cpu. free cpu ∙ sym (ap (option_map (λ (c : OpenClaim). c.units)) (kept.none cpu));
+      spans = ap (λ (ts : List Ticket). length ts) none_out ∙ sym (no-spans claims kept.none);
+      pages_are = refl;
+      reports = sym reports;
+      entry_room = omega (arith, long);
+      table_room = omega arith;
+      stamps = omega arith;
+    })

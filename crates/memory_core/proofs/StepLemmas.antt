@@ -1,0 +1,116 @@
+use Rattle.std.proofs.Common.{◌≡◌, ◌≢◌, ℕ, ◌+◌, ◌-◌, ◌*◌, ◌^◌, ◌<◌, ◌≤◌, Bool, true, false, Option, None, Some, List, [], ◌∷◌, ◌++◌, refl, sym, ◌∙◌, ap, subst, inl, inr, arith, cond, append-nil, length, max, eq-eqb, eqb-true}
+use Rattle.std.specs.Prelude.{Vec, vec_capacity, ◌==◌}
+use Rattle.std.specs.declared.alloc.Global.{Global}
+use Rattle.std.proofs.Math.Path.{fun_ext}
+use Rattle.std.proofs.Math.Nat.{mul-le-mul_right}
+use Rattle.std.proofs.lemmas.Bool.{cases_Bool}
+use Rattle.std.proofs.lemmas.List.{length_push}
+use Rattle.std.proofs.lemmas.List.Sums.{fold-append}
+use Rattle.guest_base.specs.declared.memory.Units.{Units}
+use Rattle.event_core.specs.declared.boot.Boot.{Boot}
+use Rattle.event_core.specs.declared.entry.Entry.{Entry}
+use Rattle.event_core.specs.declared.entry.Turn.{Turn}
+use Rattle.event_core.specs.declared.event.Event.{Event}
+use Rattle.event_core.specs.declared.event.Event.TheVariants.{Claim, Asked}
+use Rattle.event_core.specs.declared.module_call.ModuleCall.{ModuleCall}
+use Rattle.event_core.specs.Calls.{calls_of}
+use Rattle.event_core.specs.Claims.{Claimed, claim_of, claim_step, opened}
+use Rattle.event_core.proofs.StandingLemmas.{calls_of-push, claim_of-push}
+use Rattle.page_module.specs.Tables.{Table}
+use Rattle.unaccepted_bitmap.specs.BitmapValue.{Bits}
+use Rattle.memory_core.specs.Bitmaps.{bits_in, both_or_none}
+use Rattle.memory_core.specs.Steps.{last_stamp, bare_entry}
+use Rattle.memory_core.specs.StandsFor.{StandsFor, HoldsFor, kept_by}
+use Rattle.memory_core.specs.declared.claims.OpenClaim.{OpenClaim}
+use Rattle.memory_core.proofs.ClearLemmas.{nat-cases}
+
+-- ---- one more entry
+
+pub last-push : (entries : List Entry) (turn : Turn) (last : ℕ) (event : Event) → last ≡ last_stamp entries → last_stamp (entries ++ bare_entry turn last event ∷ []) ≡ max turn.clock last + 1
+last-push entries turn last event is =
+    fold-append (λ n (e : Entry). max n e.stamp) 0 entries (bare_entry turn last event ∷ [])
+    ∙ ap (λ n. max n (max turn.clock last + 1)) (sym is)
+    ∙ (let greater : max last (max turn.clock last + 1) ≡ max turn.clock last + 1 = omega arith in greater)
+
+either : {A : Type 0} (b : Bool) (x : A) → cond b x x ≡ x
+either true x = refl
+either false x = refl
+
+-- an event without module calls that leaves claims: a query
+pub calls-asked : (boot : Boot) (entries : List Entry) (turn : Turn) (last : ℕ) (found : Bool) → calls_of boot (entries ++ bare_entry turn last (Asked found) ∷ []) ≡ calls_of boot entries
+calls-asked boot entries turn last found = calls_of-push boot entries (bare_entry turn last (Asked found)) ∙ append-nil (calls_of boot entries)
+
+pub claims-asked : (boot : Boot) (entries : List Entry) (turn : Turn) (last : ℕ) (found : Bool) → claim_of boot (entries ++ bare_entry turn last (Asked found) ∷ []) ≡ claim_of boot entries
+claims-asked boot entries turn last found = fun_ext (λ cpu. claim_of-push boot entries (bare_entry turn last (Asked found)) cpu ∙ either (turn.cpu.0 == cpu) (claim_of boot entries cpu))
+
+-- a claim's event has no module calls
+pub calls-claimed : (boot : Boot) (entries : List Entry) (turn : Turn) (last : ℕ) (units run : Option Units) → calls_of boot (entries ++ bare_entry turn last (Claim None units run) ∷ []) ≡ calls_of boot entries
+calls-claimed boot entries turn last units run = calls_of-push boot entries (bare_entry turn last (Claim None units run)) ∙ append-nil (calls_of boot entries)
+
+pub same-is : (cpu : ℕ) → (cpu == cpu) ≡ true
+same-is cpu = eq-eqb cpu cpu refl
+
+pub not-same : (cpu other : ℕ) → other ≢ cpu → (cpu == other) ≡ false
+not-same cpu other differ = elim (cases_Bool (cpu == other)) [ inl t ↦ absurd (differ (sym (eqb-true cpu other t))) | inr f ↦ f ]
+
+pub fewer : (a b size : ℕ) → a ≤ b → a * size ≤ b * size
+fewer a b size less = mul-le-mul_right size less
+
+-- the processor's own claim is stepped, each other's stays
+pub claim-mine : (boot : Boot) (entries : List Entry) (turn : Turn) (last : ℕ) (event : Event) → claim_of boot (entries ++ bare_entry turn last event ∷ []) turn.cpu.0 ≡ claim_step boot (calls_of boot entries) (claim_of boot entries turn.cpu.0) event
+claim-mine boot entries turn last event =
+    claim_of-push boot entries (bare_entry turn last event) turn.cpu.0
+    ∙ ap (λ b. cond b (claim_step boot (calls_of boot entries) (claim_of boot entries turn.cpu.0) event) (claim_of boot entries turn.cpu.0)) (same-is turn.cpu.0)
+
+pub claim-other : (boot : Boot) (entries : List Entry) (turn : Turn) (last : ℕ) (event : Event) (other : ℕ) → other ≢ turn.cpu.0 → claim_of boot (entries ++ bare_entry turn last event ∷ []) other ≡ claim_of boot entries other
+claim-other boot entries turn last event other differ =
+    claim_of-push boot entries (bare_entry turn last event) other
+    ∙ ap (λ b. cond b (claim_step boot (calls_of boot entries) (claim_of boot entries other) event) (claim_of boot entries other)) (not-same turn.cpu.0 other differ)
+
+not-open : (U R : Option Units) (calls : List ModuleCall) → both_or_none U R ≡ None → opened None U R calls ≡ None
+not-open None R calls is = refl
+not-open (Some units) None calls is = refl
+not-open (Some units) (Some run) calls is = cc
+
+-- a claim without a run leaves no claim
+pub claims-closed : (boot : Boot) (entries : List Entry) (turn : Turn) (last : ℕ) (units run : Option Units) → claim_of boot entries turn.cpu.0 ≡ None → both_or_none units run ≡ None → claim_of boot (entries ++ bare_entry turn last (Claim None units run) ∷ []) ≡ claim_of boot entries
+claims-closed boot entries turn last units run free none =
+    fun_ext (λ cpu. elim (nat-cases cpu turn.cpu.0) [
+      | inl same ↦
+          ap (claim_of boot (entries ++ bare_entry turn last (Claim None units run) ∷ [])) same ∙ claim-mine boot entries turn last (Claim None units run)
+          ∙ not-open units run (calls_of boot entries) none ∙ sym (ap (claim_of boot entries) same ∙ free)
+      | inr differ ↦ claim-other boot entries turn last (Claim None units run) cpu differ
+    ])
+
+-- ---- a step that changes entries and room alone
+
+pub stands-more : (boot : Boot) (entries entries' : Vec Entry Global) (last last' : ℕ) (table : Table) (bits : Option Bits) (ranges : List (Option Units)) (claims : List (Option OpenClaim)) (pages kept room room' : ℕ) (turn : Turn) (event : Event)
+    → StandsFor boot entries last table bits ranges claims pages kept room
+    → calls_of boot (entries.items ++ bare_entry turn last event ∷ []) ≡ calls_of boot entries.items
+    → claim_of boot (entries.items ++ bare_entry turn last event ∷ []) ≡ claim_of boot entries.items
+    → entries'.items ≡ entries.items ++ bare_entry turn last event ∷ [] → vec_capacity entries ≤ vec_capacity entries'
+    → last' ≡ max turn.clock last + 1 → turn.clock < 2 ^ 64 → last < 2 ^ 64 → kept < 2 ^ 64 → 0 < room → room' ≡ room - 1
+    → StandsFor boot entries' last' table bits ranges claims pages kept room'
+stands-more boot entries entries' last last' table bits ranges claims pages kept room room' turn event s same-calls same-claims is more last_is low_clock low_last few some room_is =
+    let long : length entries'.items ≡ length entries.items + 1 = ap (λ (es : List Entry). length es) is ∙ length_push entries.items (bare_entry turn last event) in
+    let fits = s.entry_room in
+    let pieces = s.table_room in
+    let less : room' * (2 * pages + 2) ≤ room * (2 * pages + 2) = fewer room' room (2 * pages + 2) (omega (arith, room_is)) in
+    record {
+      booted = s.booted;
+      holds =
+          (let P : List ModuleCall → (ℕ → Option Claimed) → Type 0 = λ calls claimed. HoldsFor boot calls claimed table.runs table.out (bits_in bits) (kept_by claims) in
+          let Q : List ModuleCall → Type 0 = λ calls. P calls (claim_of boot entries.items) in
+          let R : (ℕ → Option Claimed) → Type 0 = λ claimed. P (calls_of boot entries'.items) claimed in
+          subst R (sym (ap (claim_of boot) is ∙ same-claims)) (subst Q (sym (ap (calls_of boot) is ∙ same-calls)) s.holds));
+      same_bits = s.same_bits;
+      last_is = last_is ∙ sym (ap last_stamp is ∙ last-push entries.items turn last event s.last_is);
+      places = s.places;
+      ranges_are = s.ranges_are;
+      spans = s.spans;
+      pages_are = s.pages_are;
+      reports = s.reports;
+      entry_room = omega (arith, long, fits, more, some, room_is);
+      table_room = omega (arith, pieces, less);
+      stamps = omega (arith, last_is, low_clock, low_last, few);
+    }

@@ -1,0 +1,32 @@
+use Rattle.std.proofs.Common.{◌<◌, ◌^◌, ◌∙◌, ap, arith, refl}
+use Rattle.event_core.specs.MemoryRows.{some_unaccepted}
+use Rattle.event_core.specs.Units.{guarded_units}
+use Rattle.event_core.specs.declared.event.Event.TheVariants.{Asked}
+use Rattle.memory_core.specs.Bitmaps.{bits_in, any_in}
+use Rattle.memory_core.specs.Steps.{last_stamp}
+use Rattle.memory_core.specs.Value.{MemoryValue}
+use Rattle.memory_core.proofs.BitsLemmas.{guarded-same, any-same}
+use Rattle.memory_core.proofs.StepLemmas.{stands-more, calls-asked, claims-asked}
+use Rattle.memory_core.proofs.memory.Memory.query.Goals as goal
+
+pub invariant_of-self : goal.invariant_of-self
+invariant_of-self c =
+    let i = c.self.inside in
+    let found = c.has_unaccepted-found.result in
+    let turn = c.args.turn.now in
+    let last : i.last < 2 ^ 64 = (let is = c.self.invariant.last_is in let same = ap (λ (m : MemoryValue). last_stamp m.entries) c.self.view_is in let low = c.requires.last in omega arith) in
+    let room = ap (λ (m : MemoryValue). m.room) c.self.view_is in
+    let some = c.requires.room in
+    let kept = c.self.invariant.entry_room in
+    let small = i.entries.small in
+    stands-more i.boot.value i.entries c.append.new.entries i.last c.append.new.last i.table i.bits i.accepting i.claims.items i.unit_pages i.kept i.room _ turn (Asked found) c.self.invariant
+    (calls-asked i.boot.value i.entries.items turn i.last found) (claims-asked i.boot.value i.entries.items turn i.last found)
+    c.append.ensures.entries c.append.ensures.capacity c.append.ensures.last c.requires.clock last (omega arith) (omega arith) refl
+
+pub returns-clause-found : goal.returns-clause-found
+returns-clause-found c =
+    let i = c.self.inside in
+    c.has_unaccepted-found.ensures
+    ∙ ap (any_in (bits_in i.bits)) (guarded-same i.boot.value i.bits c.args.start c.args.len c.self.invariant.same_bits)
+    ∙ any-same i.boot.value i.entries.items (bits_in i.bits) (guarded_units i.boot.value c.args.start c.args.len) c.self.invariant.holds.bits
+    ∙ ap (λ (m : MemoryValue). some_unaccepted m.boot m.entries (guarded_units m.boot c.args.start c.args.len)) c.self.view_is

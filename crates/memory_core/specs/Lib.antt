@@ -1,0 +1,6 @@
+pub mod Bitmaps
+pub mod Value
+pub mod Steps
+pub mod Booted
+pub mod StandsFor
+pub mod Answers

@@ -1,0 +1,10 @@
+//! The memory of a guest: what its lock holds.
+#![tactic(auto)]
+
+mod claims;
+mod entries;
+mod memory;
+mod pages;
+mod units;
+
+pub use memory::{Begin, Memory, Reported};

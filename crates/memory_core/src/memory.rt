@@ -1,0 +1,367 @@
+//! What the memory lock holds.
+ghost use Rattle.std.specs.Prelude.{◌≡◌, ◌≢◌, ℕ, List, [], ◌++◌, ◌+◌, ◌^◌, ◌<◌, ◌≤◌, None, Some, Option, IsSome, IfSome, IfOk, OnOk, OnErr, max, map};
+ghost use Rattle.guest_base.specs.Search.{count_such};
+ghost use Rattle.event_core.specs.declared.boot.Descriptor.{Descriptor};
+ghost use Rattle.event_core.specs.declared.event.Event.TheVariants.{Claim, Asked};
+ghost use Rattle.event_core.specs.declared.module_call.ModuleCall.{ModuleCall};
+ghost use Rattle.event_core.specs.Map.{MapRules};
+ghost use Rattle.event_core.specs.Boot.{BootRight};
+ghost use Rattle.event_core.specs.Runs.{state_in as first_state_of};
+ghost use Rattle.event_core.specs.Calls.{calls_of, SoundCalls};
+ghost use Rattle.event_core.specs.Claims.{Claimed, claim_of, in_the_way};
+ghost use Rattle.event_core.specs.MemoryRows.{page_state, run_of_claim, report_event, some_unaccepted};
+ghost use Rattle.event_core.specs.Units.{bit_after, first_run, guarded_units, unit_pages};
+ghost use Rattle.page_module.specs.States.{state_in};
+ghost use Rattle.memory_core.specs.Bitmaps.{BitsAfter};
+ghost use Rattle.memory_core.specs.Value.{handed_to};
+ghost use Rattle.memory_core.specs.Steps.{last_stamp, unaccepted_count, Appends, BringsTo};
+
+use crate::claims::{OpenClaim, open_claim, push_none, set_claim};
+use crate::entries::append;
+use crate::pages::{clear_run, run_pages, stopped_page};
+use crate::units::{
+    both_of, count_unaccepted, first_run_of, guarded_units_of, has_unaccepted, next_run_of,
+    overlap_of, run_from,
+};
+use accept_sizes::RunEnd;
+use accepting_ranges::Accepting;
+use event_core::{Boot, Calls, Entries, Entry, Event, NoRoom, Turn};
+use guest_base::{CpuNo, Items, Unit, Units};
+use page_module::{PageTable, Span};
+use std::alloc::{AllocError, Global};
+use std::marker::Model;
+use std::snapshot::Snapshot;
+use unaccepted_bitmap::Bitmap;
+
+/// What `begin_accept` answers.
+#[derive(Debug, Drop)]
+pub enum Begin {
+    /// No guarded unit of the range is unaccepted: the claim is closed in the same step.
+    Clear,
+    /// The guarded units are claimed, and the pages of their first run of unaccepted units are out in this span.
+    Claimed(Span),
+    /// These units of an open claim meet the guarded ones; nothing has changed.
+    Blocked(Units),
+}
+
+/// What `report` answers.
+#[derive(Debug, Drop)]
+pub enum Reported {
+    /// The claim goes on with the pages of its next run, which are out in this span.
+    Next(Span),
+    /// The claim is closed, and has cleared the bits of so many units.
+    Closed(u64),
+    /// The acceptance stopped, and the claim is closed.
+    Stopped,
+}
+
+/// What the lock of the memory holds: the states of pages, which units are unaccepted, the claims that are open, and the memory's
+/// entries.
+///
+/// Contracts see how the guest was booted, the entries, what is out with each processor for its open claim, and the room for the
+/// next step, which is one more than the units that it may accept.
+#[derive(Drop)]
+pub struct Memory {
+    boot: Snapshot<Boot>,
+    table: PageTable,
+    /// None where the map has no unaccepted descriptor.
+    bits: Option<Bitmap>,
+    accepting: Accepting,
+    /// The open claims, by processor.
+    claims: Vec<Option<OpenClaim>>,
+    entries: Vec<Entry>,
+    /// The stamp of the last entry.
+    last: u128,
+    /// The pages of a unit.
+    unit_pages: u64,
+    /// The places in `entries` that are kept for the reports of open claims.
+    kept: u64,
+    room: u64,
+}
+
+impl Model for Memory {
+    ghost use Rattle.std.specs.Prelude.{map};
+    ghost use Rattle.memory_core.specs.Value.{MemoryValue};
+
+    ghost Value = { MemoryValue };
+
+    ghost use Rattle.memory_core.specs.StandsFor.{handed_for, StandsFor};
+
+    ghost view = { λ m. record { boot = m.boot.value; entries = m.entries.items; out = map handed_for m.claims.items; room = m.room } };
+
+    ghost invariant = { λ m. StandsFor m.boot.value m.entries m.last m.table m.bits m.accepting m.claims.items m.unit_pages m.kept m.room };
+}
+
+impl Memory {
+    ghost use Rattle.memory_core.specs.Answers.{BegunBy, ReportedBy, IsBlocked, NoneOpen, OthersKeep};
+
+    /// The memory of a boot, with no entry and no room. The table has the states of the pages after boot's calls, and no page is
+    /// out; the bitmap has the bits after boot's calls.
+    pub fn new(
+        alloc: Global,
+        boot: &Boot,
+        table: PageTable,
+        bits: Option<Bitmap>,
+    ) -> Result<Memory, AllocError>
+        requires right { (descriptors : List Descriptor) × (slots : ℕ) × MapRules descriptors boot.now.hosts × BootRight descriptors boot.now.hosts slots boot.now.areas boot.now.cpus boot.now }
+        requires sound { SoundCalls (first_state_of boot.now.ram) boot.now.calls }
+        requires cpus { boot.now.cpus ≤ 64 }
+        requires states { (page : ℕ) → state_in table.runs page ≡ page_state boot.now boot.now.calls page }
+        requires none_out { table.out ≡ [] }
+        requires bits { BitsAfter boot.now boot.now.calls bits }
+        ensures boot { IfOk result (λ m. m.boot ≡ boot.now) }
+        ensures entries { IfOk result (λ m. m.entries ≡ []) }
+        ensures out { IfOk result (λ m. (cpu : ℕ) → handed_to m cpu ≡ None) }
+    {
+        let mut claims = Vec::with_capacity(alloc, boot.cpus as usize)?;
+        for _ in 0..boot.cpus {
+            push_none(&mut claims);
+        }
+        Ok(Memory {
+            boot: Snapshot::of(boot),
+            table,
+            bits,
+            accepting: Accepting::new(),
+            claims,
+            entries: Vec::new(alloc),
+            last: 0,
+            unit_pages: boot.unit / 4096,
+            kept: 0,
+            room: 0,
+        })
+    }
+
+    /// Takes room for the next step, and for an acceptance over `units` units until it closes. `Worn` comes exactly where the last
+    /// stamp is 2^64 or more, and names it. Whatever the answer, nothing else changes.
+    pub fn reserve(&mut self, alloc: Global, units: u64) -> Result<(), NoRoom>
+        ensures ok { OnOk result (units < self.new.room) }
+        ensures worn { 2 ^ 64 ≤ last_stamp self.old.entries → result ≡ Err (NoRoom.Worn (last_stamp self.old.entries)) }
+        ensures fresh { last_stamp self.old.entries < 2 ^ 64 → (stamp : ℕ) → result ≢ Err (NoRoom.Worn stamp) }
+        ensures kept { self.new ≡ record self.old { room = self.new.room } }
+        ensures room_kept { self.old.room ≤ self.new.room }
+    {
+        if self.last >= 1 << 64 {
+            return Err(NoRoom::Worn(self.last));
+        }
+        match self.take_room(alloc, units) {
+            Ok(()) => Ok(()),
+            Err(AllocError) => Err(NoRoom::NoMemory),
+        }
+    }
+
+    fn take_room(&mut self, alloc: Global, units: u64) -> Result<(), AllocError>
+        ensures ok { OnOk result (units < self.new.room) }
+        ensures kept { self.new ≡ record self.old { room = self.new.room } }
+        ensures room_kept { self.old.room ≤ self.new.room }
+    {
+        if self.room <= units {
+            let room = units.checked_add(1).ok_or(AllocError)?;
+            let places = self.kept.checked_add(room).ok_or(AllocError)?;
+            self.entries.reserve(places as usize)?;
+            let pieces = room.checked_mul(2 * self.unit_pages + 2).ok_or(AllocError)?;
+            self.table.reserve(alloc, pieces)?;
+            self.room = room;
+        }
+        Ok(())
+    }
+
+    /// The units that an acceptance of the `len` bytes from the address `start` on claims, the guard among them. None exactly where
+    /// there are none.
+    pub fn claim_units(&self, start: u64, len: u64) -> Option<Units>
+        requires some { 1 ≤ len }
+        requires end { start + len ≤ 2 ^ 40 }
+        ensures units { result ≡ guarded_units self.now.boot start len }
+        ensures end { IfSome result (λ u. u.first + u.count < 2 ^ 64) }
+    {
+        guarded_units_of(&self.bits, start, len)
+    }
+
+    /// The first maximal run of unaccepted units from `from` on and below `to`, clipped to these.
+    pub fn next_run(&self, from: Unit, to: Unit) -> Option<Units>
+        ensures { result ≡ first_run (bit_after self.now.boot (calls_of self.now.boot self.now.entries)) from.0 to.0 }
+    {
+        run_from(&self.bits, from.0, to.0)
+    }
+
+    /// How many of the units are unaccepted: for so many there has to be room where they are accepted.
+    pub fn unaccepted_units(&self, units: Units) -> u64
+        requires { units.first + units.count < 2 ^ 64 }
+        ensures { result ≡ count_such (bit_after self.now.boot (calls_of self.now.boot self.now.entries)) units.first units.count }
+    {
+        count_unaccepted(&self.bits, units)
+    }
+
+    /// The pages of a unit.
+    pub fn unit_pages(&self) -> u64
+        ensures { result ≡ unit_pages self.now.boot }
+    {
+        self.unit_pages
+    }
+
+    /// The stamp of the last entry, 0 where there is none.
+    pub fn last(&self) -> u128
+        ensures { result ≡ last_stamp self.now.entries }
+    {
+        self.last
+    }
+
+    /// Claims the guarded units of a range of bytes for the turn's processor, which has no open claim, and takes out the pages of
+    /// the first run of unaccepted ones. There has to be room for as many units as are unaccepted.
+    ///
+    /// `Blocked` comes exactly where an open claim meets the guarded units, and names that claim's: nothing changes then. `Clear`
+    /// comes exactly where none is met and no guarded unit is unaccepted.
+    pub fn begin_accept(&mut self, turn: &mut Turn, start: u64, len: u64) -> Begin
+        requires some { 1 ≤ len }
+        requires end { start + len ≤ 2 ^ 40 }
+        requires cpu { turn.old.cpu.0 < self.old.boot.cpus }
+        requires free { claim_of self.old.boot self.old.entries turn.old.cpu.0 ≡ None }
+        requires clock { turn.old.clock < 2 ^ 64 }
+        requires last { last_stamp self.old.entries < 2 ^ 64 }
+        requires room { unaccepted_count self.old.boot self.old.entries (guarded_units self.old.boot start len) < self.old.room }
+        ensures begun { BegunBy self.old self.new turn.old (guarded_units self.old.boot start len) result }
+        ensures blocked { IsBlocked result → (self.new ≡ self.old) × (turn.new ≡ turn.old) }
+        ensures appends { ¬ IsBlocked result → Appends self.old self.new turn.old turn.new
+            (Claim None (guarded_units self.old.boot start len) (run_of_claim self.old.boot self.old.entries (guarded_units self.old.boot start len))) }
+        ensures others { OthersKeep self.old self.new turn.old.cpu.0 }
+    {
+        let units = guarded_units_of(&self.bits, start, len);
+        if let Some(met) = overlap_of(&self.accepting, units) {
+            return Begin::Blocked(met);
+        }
+        let run = first_run_of(&self.bits, units);
+        let event = Event::Claim {
+            block: None,
+            units,
+            run,
+        };
+        append(&mut self.entries, &mut self.last, turn, event);
+        match both_of(units, run) {
+            Some((units, run)) => {
+                let span = self.table.take(run_pages(&self.bits, run));
+                let claim = OpenClaim {
+                    units,
+                    run,
+                    cleared: 0,
+                    ticket: span.ticket(),
+                    room: self.room - 1 - run.count,
+                };
+                self.accepting.add(turn.cpu, units);
+                set_claim(&mut self.claims, turn.cpu, Some(claim));
+                self.kept += claim.room + 1;
+                self.room = 0;
+                Begin::Claimed(span)
+            }
+            None => {
+                self.room -= 1;
+                Begin::Clear
+            }
+        }
+    }
+
+    /// Reports the open run of the turn's processor: its pages, which come back in the span that is out for it, were brought to
+    /// their states by `calls`, with this end. The bits of the units without a pending page become clear.
+    ///
+    /// `Next` has the pages of the claim's next run. Where none is left, or the acceptance stopped, the claim closes: `Stopped`
+    /// comes exactly where `end` is `Stopped`.
+    pub fn report(&mut self, turn: &mut Turn, span: Span, calls: Calls, end: RunEnd) -> Reported
+        requires out { IfSome (handed_to self.old turn.old.cpu.0) (λ handed. handed.ticket ≡ span.ticket) }
+        requires brings { (claim : Claimed) × (claim_of self.old.boot self.old.entries turn.old.cpu.0 ≡ Some claim)
+            × BringsTo self.old.boot (calls_of self.old.boot self.old.entries) claim.run span calls end }
+        requires clock { turn.old.clock ≤ max (2 ^ 64) (last_stamp self.old.entries) }
+        ensures reported { (claim : Claimed) → claim_of self.old.boot self.old.entries turn.old.cpu.0 ≡ Some claim → ReportedBy self.old self.new turn.old claim calls result }
+        ensures appends { (claim : Claimed) → claim_of self.old.boot self.old.entries turn.old.cpu.0 ≡ Some claim
+            → Appends self.old self.new turn.old turn.new (report_event self.old.boot claim calls) }
+        ensures others { OthersKeep self.old self.new turn.old.cpu.0 }
+    {
+        let claim = open_claim(&self.claims, turn.cpu);
+        let cleared = claim.cleared + clear_run(&mut self.bits, &span, claim.run);
+        self.table.put(span);
+        let next = next_run_of(&self.bits, claim.units, claim.run, end);
+        let event = Event::Report {
+            run: claim.run,
+            calls,
+            stopped: stopped_page(end),
+            next,
+        };
+        append(&mut self.entries, &mut self.last, turn, event);
+        match next {
+            Some(run) => {
+                let span = self.table.take(run_pages(&self.bits, run));
+                let open = OpenClaim {
+                    units: claim.units,
+                    run,
+                    cleared,
+                    ticket: span.ticket(),
+                    room: claim.room - run.count,
+                };
+                set_claim(&mut self.claims, turn.cpu, Some(open));
+                self.kept -= run.count;
+                self.room = 0;
+                Reported::Next(span)
+            }
+            None => {
+                self.accepting.remove(turn.cpu);
+                set_claim(&mut self.claims, turn.cpu, None);
+                self.kept -= claim.room + 1;
+                closed_by(end, cleared)
+            }
+        }
+    }
+
+    /// Whether a guarded unit of a range of bytes is unaccepted.
+    pub fn query(&mut self, turn: &mut Turn, start: u64, len: u64) -> bool
+        requires some { 1 ≤ len }
+        requires end { start + len ≤ 2 ^ 40 }
+        requires cpu { turn.old.cpu.0 < self.old.boot.cpus }
+        requires free { claim_of self.old.boot self.old.entries turn.old.cpu.0 ≡ None }
+        requires clock { turn.old.clock < 2 ^ 64 }
+        requires last { last_stamp self.old.entries < 2 ^ 64 }
+        requires room { 0 < self.old.room }
+        ensures found { result ≡ some_unaccepted self.old.boot self.old.entries (guarded_units self.old.boot start len) }
+        ensures appends { Appends self.old self.new turn.old turn.new (Asked result) }
+        ensures others { OthersKeep self.old self.new turn.old.cpu.0 }
+    {
+        let found = has_unaccepted(&self.bits, start, len);
+        append(
+            &mut self.entries,
+            &mut self.last,
+            turn,
+            Event::Asked { found },
+        );
+        self.room -= 1;
+        found
+    }
+
+    /// The page table and the entries. Where no claim is open, no page is out, and the states are those after all entries.
+    pub fn into_parts(self) -> (PageTable, Entries)
+        ensures entries { result.1 ≡ self.entries }
+        ensures none_out { NoneOpen self → result.0.out ≡ [] }
+        ensures states { NoneOpen self → (page : ℕ) → state_in result.0.runs page ≡ page_state self.boot (calls_of self.boot self.entries) page }
+    {
+        let Memory {
+            boot: _,
+            table,
+            bits: _,
+            accepting: _,
+            claims: _,
+            entries,
+            last: _,
+            unit_pages: _,
+            kept: _,
+            room: _,
+        } = self;
+        (table, Items::from_vec(entries))
+    }
+}
+
+ghost use Rattle.memory_core.specs.Answers.{answer_at};
+
+/// The answer of a report that closes its claim.
+fn closed_by(end: RunEnd, cleared: u64) -> Reported
+    ensures { result ≡ answer_at end cleared }
+{
+    match end {
+        RunEnd::Whole => Reported::Closed(cleared),
+        RunEnd::Stopped(_) => Reported::Stopped,
+    }
+}

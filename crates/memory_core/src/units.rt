@@ -1,0 +1,111 @@
+//! Units of the kept bitmap.
+ghost use Rattle.std.specs.Prelude.{◌≡◌, ℕ, ◌+◌, ◌^◌, ◌<◌, ◌≤◌, None, Some, Option, IfSome};
+ghost use Rattle.std.specs.Option.{ForSome, option_and_then};
+ghost use Rattle.guest_base.specs.Search.{count_such};
+ghost use Rattle.guest_base.specs.declared.memory.Units.{Units};
+ghost use Rattle.event_core.specs.Units.{first_run};
+ghost use Rattle.accepting_ranges.specs.Claims.{range_of, MeetsNone, IsFirstToMeet};
+ghost use Rattle.memory_core.specs.Bitmaps.{bits_in, guarded_by, both_or_none, any_in, MeetsNoneOf, IsFirstMet, next_by};
+
+use accept_sizes::RunEnd;
+use accepting_ranges::Accepting;
+use guest_base::{Unit, Units};
+use unaccepted_bitmap::Bitmap;
+
+/// The guarded units of a range of bytes.
+pub(crate) fn guarded_units_of(bits: &Option<Bitmap>, start: u64, len: u64) -> Option<Units>
+    requires some { 1 ≤ len }
+    requires end { start + len ≤ 2 ^ 40 }
+    ensures units { result ≡ guarded_by bits.now start len }
+    ensures end { ForSome result (λ u. u.first + u.count < 2 ^ 64) }
+{
+    match bits {
+        Some(bits) => bits.claim_units(start, len),
+        None => None,
+    }
+}
+
+/// The first maximal run of unaccepted units from one on and below another.
+pub(crate) fn run_from(bits: &Option<Bitmap>, from: u64, end: u64) -> Option<Units>
+    ensures { result ≡ first_run (bits_in bits.now) from end }
+{
+    match bits {
+        Some(bits) => bits.next_run(Unit(from), Unit(end)),
+        None => None,
+    }
+}
+
+/// The first run of unaccepted units among units.
+pub(crate) fn first_run_of(bits: &Option<Bitmap>, units: Option<Units>) -> Option<Units>
+    requires { ForSome units (λ u. u.first + u.count < 2 ^ 64) }
+    ensures { result ≡ option_and_then (λ (u : Units). first_run (bits_in bits.now) u.first (u.first + u.count)) units }
+{
+    match units {
+        Some(units) => run_from(bits, units.first, units.first + units.count),
+        None => None,
+    }
+}
+
+/// Both, where both are there.
+pub(crate) fn both_of(units: Option<Units>, run: Option<Units>) -> Option<(Units, Units)>
+    ensures { result ≡ both_or_none units run }
+{
+    match (units, run) {
+        (Some(units), Some(run)) => Some((units, run)),
+        _ => None,
+    }
+}
+
+/// Whether a range of memory has an unaccepted guarded unit.
+pub(crate) fn has_unaccepted(bits: &Option<Bitmap>, start: u64, len: u64) -> bool
+    requires some { 1 ≤ len }
+    requires end { start + len ≤ 2 ^ 40 }
+    ensures { result ≡ any_in (bits_in bits.now) (guarded_by bits.now start len) }
+{
+    match bits {
+        Some(bits) => bits.contains(start, len),
+        None => false,
+    }
+}
+
+/// The first claimed range that meets the units.
+pub(crate) fn overlap_of(accepting: &Accepting, units: Option<Units>) -> Option<Units>
+    ensures some { IfSome result (λ range. IsFirstMet accepting.now units range) }
+    ensures none { result ≡ None → MeetsNoneOf accepting.now units }
+{
+    match units {
+        Some(units) => accepting.overlaps(units),
+        None => None,
+    }
+}
+
+/// The run behind another one, where the acceptance of that one didn't stop.
+pub(crate) fn next_run_of(
+    bits: &Option<Bitmap>,
+    units: Units,
+    run: Units,
+    end: RunEnd,
+) -> Option<Units>
+    requires units { units.first + units.count < 2 ^ 64 }
+    requires run { run.first + run.count < 2 ^ 64 }
+    ensures { result ≡ next_by (bits_in bits.now) units run end }
+{
+    match end {
+        RunEnd::Whole => run_from(bits, run.first + run.count, units.first + units.count),
+        RunEnd::Stopped(_) => None,
+    }
+}
+
+/// How many of the units are unaccepted.
+pub(crate) fn count_unaccepted(bits: &Option<Bitmap>, units: Units) -> u64
+    requires { units.first + units.count < 2 ^ 64 }
+    ensures { result ≡ count_such (bits_in bits.now) units.first units.count }
+{
+    let mut count = 0;
+    for unit in units.first..units.first + units.count {
+        if run_from(bits, unit, unit + 1).is_some() {
+            count += 1;
+        }
+    }
+    count
+}
