@@ -1,12 +1,11 @@
 use Rattle.std.proofs.Common.{◌≡◌, ◌≢◌, ℕ, ◌+◌, ◌*◌, ◌/◌, ◌%◌, ◌^◌, ◌<◌, ◌≤◌, Bool, true, false, ◌&&◌, Option, None, Some, List, [], ◌∷◌, ◌++◌, refl, sym, ◌∙◌, ap, subst, inl, inr, arith, cond}
-use Rattle.std.specs.Prelude.{fold, ◌==◌, All, nat_lt, length, slice_index, slice_index_or}
+use Rattle.std.specs.Prelude.{fold, ◌==◌, nat_lt}
 use Rattle.std.specs.List.{AllByRecursion}
-use Rattle.std.proofs.lemmas.Bool.{cases_Bool, cases_lt}
+use Rattle.std.proofs.lemmas.Bool.{cases_lt}
 use Rattle.std.proofs.lemmas.Bool.Decides.{nat_tests}
 use Rattle.guest_base.specs.Ranges.{in_range}
 use Rattle.guest_base.specs.declared.memory.Page.{Page}
 use Rattle.guest_base.specs.declared.memory.Pages.{Pages}
-use Rattle.guest_base.specs.declared.memory.Units.{Units}
 use Rattle.guest_base.specs.declared.memory.Block.{Block}
 use Rattle.guest_base.specs.declared.memory.Level.{Level}
 use Rattle.guest_base.specs.declared.memory.HostRun.{HostRun}
@@ -19,10 +18,10 @@ use Rattle.event_core.specs.declared.module_call.CallKind.TheVariants.{Accept, S
 use Rattle.event_core.specs.declared.module_call.ModuleCall.{ModuleCall}
 use Rattle.event_core.specs.Acceptance.{AcceptanceSteps, goes_on_at, tried_at}
 use Rattle.event_core.specs.Boot.{BootRight, InTurn, StagePart, Stage, Early, PoolAccepted, PoolShared, BlockAccepted, AcceptsRun, AcceptsRange, SharesPool, set_runs}
-use Rattle.event_core.specs.Calls.{States, is_done, covers, after_call, state_after, state_before, state_made, SoundCalls, IsSound}
-use Rattle.event_core.specs.Map.{MapRules, first_state}
+use Rattle.event_core.specs.Calls.{States, is_done, covers, after_call, state_after, state_before, state_made, SoundCalls}
+use Rattle.event_core.specs.Map.{MapRules}
 use Rattle.event_core.specs.MemoryRows.{page_state, is_pending}
-use Rattle.event_core.specs.Runs.{AreMaximalRuns, state_in}
+use Rattle.event_core.specs.Runs.{state_in}
 use Rattle.event_core.specs.Stub.{default_unit, unaccepted, least_start, stub_base, stub_bit}
 use Rattle.event_core.specs.Units.{bit_of, is_marked, mark_step, unit_count, unit_first, unit_pages, guarded_units}
 use Rattle.event_core.proofs.MapLemmas.{first_none, any_pending, pending_first}

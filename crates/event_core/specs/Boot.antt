@@ -32,7 +32,7 @@ InTurn Part done (item ∷ items) calls stop =
     ((page : Page) × Part done item calls (Some page) × (stop ≡ Some page))
     ⊎ ((now : List ModuleCall) × (later : List ModuleCall) × (calls ≡ now ++ later) × Part done item now None × InTurn Part (done ++ now) items later stop)
 
--- boot without the calls that it makes, by which their places are judged
+-- a page of the piece that is pending after the calls before
 abbrev pub pending_piece : Boot → List ModuleCall → Pages → ℕ → Bool
 pending_piece boot before pages page = in_range pages.first pages.count page && is_pending (page_state boot before page)
 

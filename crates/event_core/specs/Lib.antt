@@ -28,6 +28,7 @@ pub mod Parted
 pub mod Pool
 pub mod PoolBytes
 pub mod Printed
+pub mod Splits
 pub mod RangedScripts
 pub mod ReadableScript
 pub mod Refusals

@@ -6,7 +6,8 @@ use Rattle.guest_base.specs.declared.memory.Block.{Block}
 use Rattle.guest_base.specs.declared.transfer.SlotRun.{SlotRun}
 use Rattle.event_core.specs.declared.boot.Boot.{Boot}
 
--- what no step changes; a memory has its boot and no area, an area its own pair and no boot
+-- what no step changes; a memory has its boot and no area, an area its own pair and no boot, and a value that holds a memory and
+-- areas has the boot and all their pairs
 pub record Fixed : Type 0 where
   -- how the guest was booted, where the value holds its memory
   pub boot : Option Boot

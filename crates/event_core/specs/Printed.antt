@@ -1,4 +1,4 @@
-use Rattle.std.specs.Prelude.{ℕ, List, Option, ◌≡◌, ◌==◌, map, filter, filter_map}
+use Rattle.std.specs.Prelude.{ℕ, List, Option, None, Some, Bool, true, false, ◌≡◌, ◌==◌, map, filter, filter_map}
 use Rattle.guest_base.specs.declared.memory.PageRun.{PageRun}
 use Rattle.event_core.specs.declared.boot.Boot.{Boot}
 use Rattle.event_core.specs.declared.reply.Reply.{Reply}
@@ -17,9 +17,14 @@ replies_of_cpu entries cpu = filter_map (λ (e : Entry). e.reply) (filter (λ (e
 abbrev pub replies_by_processor : Boot → List Entry → List (List Reply)
 replies_by_processor boot entries = map (replies_of_cpu entries) (numbers_from 0 boot.cpus)
 
+-- the processor of each entry, where the order is asked for
+abbrev pub order_asked : Bool → List Entry → Option (List ℕ)
+order_asked false entries = None
+order_asked true entries = Some (map (λ (e : Entry). e.cpu.0) entries)
+
 -- A text is the printed text of a run: the replies of each processor, and the maximal runs of pages by their states after all
--- entries; the order of the entries where it is asked for.
-pub record Printed (boot : Boot) (entries : List Entry) (order : Option (List ℕ)) (text : List ℕ) : Type 0 where
+-- entries; the processors of the entries in their order, where that is asked for.
+pub record Printed (boot : Boot) (entries : List Entry) (ordered : Bool) (text : List ℕ) : Type 0 where
   pub runs : List PageRun
   pub maximal : AreMaximalRuns (page_state boot (calls_of boot entries)) runs
-  pub same : text ≡ run_text (replies_by_processor boot entries) runs order
+  pub same : text ≡ run_text (replies_by_processor boot entries) runs (order_asked ordered entries)

@@ -16,12 +16,13 @@ pub struct Name {
 
 impl Model for Name {
     ghost use Rattle.std.specs.Prelude.{List, ℕ, take, ◌≤◌};
+    ghost use Rattle.event_core.specs.Name.{IsName};
 
     ghost Value = { List ℕ };
 
     ghost view = { λ n. take n.count n.characters };
 
-    ghost invariant = { λ n. n.count ≤ 32 };
+    ghost invariant = { λ n. (n.count ≤ 32) × IsName (take n.count n.characters) };
 }
 
 impl Name {
@@ -43,7 +44,8 @@ impl Name {
 
     /// The characters.
     pub fn as_bytes(&self) -> &[u8]
-        ensures { result.now ≡ self.now }
+        ensures same { result.now ≡ self.now }
+        ensures name { IsName self.now }
     {
         &self.characters[..self.count]
     }

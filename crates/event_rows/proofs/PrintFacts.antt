@@ -53,7 +53,7 @@ runs-rise zero (suc zero) d h k = record { ends = omega arith; differs = λ meet
 runs-rise zero (suc (suc j)) d h k = absurd (omega (arith, k))
 runs-rise (suc i) j d h k = absurd (omega (arith, h, k))
 
-pub page_accepted-printed : Printed small_guest (units_accepted_by 1 one_large 1) None page_text
+pub page_accepted-printed : Printed small_guest (units_accepted_by 1 one_large 1) false page_text
 unfolding digits
 page_accepted-printed = record {
   runs = two_runs 1536 1536;

@@ -1,5 +1,5 @@
 //! One processor accepts a page, or a unit, of the first unaccepted memory of a small guest.
-ghost use Rattle.std.specs.Prelude.{ℕ, ◌≢◌, [], ◌∷◌, None};
+ghost use Rattle.std.specs.Prelude.{ℕ, ◌≢◌, [], ◌∷◌, false};
 ghost use Rattle.guest_base.specs.declared.memory.Level.TheVariants.{Small, Large};
 ghost use Rattle.event_core.specs.Legal.{Whole};
 ghost use Rattle.event_core.specs.Printed.{Printed};
@@ -13,7 +13,7 @@ pub fn page_accepted_is_whole()
 
 /// After an accept of the first page the count and the pages by their states are printed.
 pub fn page_accepted_is_printed()
-    ensures { Printed small_guest (units_accepted_by 1 one_large 1) None page_text }
+    ensures { Printed small_guest (units_accepted_by 1 one_large 1) false page_text }
 {}
 
 /// An accept of the first page doesn't answer another count of units than 1.

@@ -1,4 +1,4 @@
-use Rattle.std.specs.Prelude.{ℕ, List, [], ◌∷◌, Option, None, Some, Ok, ◌≡◌}
+use Rattle.std.specs.Prelude.{ℕ, List, [], ◌∷◌, Option, Some, Ok, false, ◌≡◌}
 use Rattle.std.specs.Option.{option_map}
 use Rattle.event_core.specs.declared.boot.Boot.{Boot}
 use Rattle.event_core.specs.declared.boot.Recorded.{Recorded}
@@ -40,4 +40,4 @@ pub record History (order : List ℕ) (r : Recorded) : Type 0 where
 
 -- where it is told what was written, it is what was written before and then a printed text of the run, without the order
 abbrev pub PrintedAfter : Recorded → Option (List ℕ) → Option (List ℕ) → Type 0
-PrintedAfter r before after = (text : List ℕ) × Printed r.boot r.entries None text × (after ≡ appended before text)
+PrintedAfter r before after = (text : List ℕ) × Printed r.boot r.entries false text × (after ≡ appended before text)
