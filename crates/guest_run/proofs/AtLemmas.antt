@@ -23,7 +23,7 @@ use Rattle.event_core.specs.Next.{Step, next_step, claim_reply, report_reply}
 use Rattle.event_core.specs.Legal.{with_moved, at_place, place_of, CallsFit}
 use Rattle.event_core.proofs.StandingLemmas.{claim_of-push}
 use Rattle.guest_run.specs.Running.{Running, At, entry_for, made_entry, memory_of}
-use Rattle.guest_run.proofs.OneProcessor.{running-push, there_moved, there-push, there-own, refused-next, claim-next, report-next, query-next, replied-push}
+use Rattle.guest_run.proofs.OneProcessor.{running-push, there-push, there-own, refused-next, claim-next, report-next, query-next, replied-push}
 
 length-push : {A : Type 0} (xs : List A) (x : A) → length (xs ++ x ∷ []) ≡ length xs + 1
 length-push xs x = length-append xs (x ∷ [])

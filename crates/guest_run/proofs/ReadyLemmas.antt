@@ -40,7 +40,7 @@ use Rattle.guest_run.specs.Running.{At, made_entry}
 use Rattle.guest_run.specs.Ready.{Ready, Claiming, EndsOr, next_turn}
 use Rattle.guest_run.specs.Answered.{begun_with, span_in, reply_in, IsRunOf}
 use Rattle.guest_run.proofs.OneProcessor.{last-low, clear-way}
-use Rattle.guest_run.proofs.AtLemmas.{at-refused, at-query, at-claim, at-report, refused_step, query_step, claim_made, report_made, bare_made, number_after}
+use Rattle.guest_run.proofs.AtLemmas.{at-refused, at-query, at-claim, at-report, query_step, claim_made, report_made, bare_made, number_after}
 use Rattle.guest_run.proofs.SpanLemmas.{same-units, pages-behind, pages-some, span-accepts}
 
 -- ---- one more entry
@@ -321,6 +321,19 @@ claiming-report p number memory turned span worked run calls copy stopped report
     (subst N (sym told.answer)
     (at-stepped p number (number_after number s.reply) (Some c.claim) then memory turned s (event.Report run copy stopped next) (reply_in reported) c.at refl told_event told.answer (subst A c.same appends)
     (at-report p.boot p.script p.entries p.memory.entries number c.start c.len c.claim calls (cleared_by p.boot p.memory.entries c.claim calls) c.at c.command c.fine accepted refl)))
+
+-- a processor with an entry that is told in other words
+pub report-added : (p q : Processor) (number stamp : ℕ) (memory : MemoryValue) (e : Event) (r : Option Reply) (reported : Reported) (next : Option Taken) → q ≡ with_entry p memory stamp number place.Memory e r → r ≡ reply_in reported → next ≡ span_in reported
+    → EndsOr (with_entry p memory stamp number place.Memory e (reply_in reported)) number (span_in reported) → EndsOr q number next
+report-added p q number stamp memory e r reported next is is_reply is_next goes =
+    let P : Processor → Type 0 = λ x. EndsOr x number next in
+    let R : Option Reply → Type 0 = λ x. EndsOr (with_entry p memory stamp number place.Memory e x) number next in
+    let S : Option Taken → Type 0 = λ o. EndsOr (with_entry p memory stamp number place.Memory e (reply_in reported)) number o in
+    subst P (sym is) (subst R (sym is_reply) (subst S (sym is_next) goes))
+
+-- the claim that is open, in the memory's words
+pub claim-has : (p : Processor) (number : ℕ) (span : Taken) (turn : Turn) (c : Claiming p number span) → turn ≡ next_turn p number → claim_of p.memory.boot p.memory.entries turn.cpu.0 ≡ Some c.claim
+claim-has p number span turn c is = ap (λ (t : Turn). claim_of p.memory.boot p.memory.entries t.cpu.0) is ∙ ap (λ b. claim_of b p.memory.entries 0) c.same ∙ c.at.claims
 
 -- the pages that are out next are those of units, and begin behind the run
 pub report-whole : (boot : Boot) (old new : MemoryValue) (turn : Turn) (claim : Claimed) (calls : List ModuleCall) (reported : Reported) → new.boot ≡ boot → ReportedBy old new turn claim calls reported → IfSome (span_in reported) (λ s. (units : Units) × (s.ticket.pages ≡ pages_of boot units))

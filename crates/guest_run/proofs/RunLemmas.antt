@@ -1,5 +1,5 @@
 use Rattle.std.proofs.Common.{◌≡◌, ℕ, suc, zero, ◌+◌, ◌-◌, ◌^◌, ◌<◌, Bool, true, false, ◌&&◌, Option, None, Some, List, [], ◌∷◌, ◌++◌, refl, sym, ◌∙◌, ap, subst, inl, inr, arith, cond, ◌==◌, eqb-true, eq-eqb, length, get_or, map, filter}
-use Rattle.std.specs.Prelude.{IfSome, slice_get, slice_set, find, All, Result, Ok, Err, IfOk, OnOk}
+use Rattle.std.specs.Prelude.{slice_get, slice_set, find, All, Result, Ok, Err, IfOk, OnOk}
 use Rattle.std.specs.Option.{option_map}
 use Rattle.std.specs.List.{filter_map, flat_map, AllByRecursion}
 use Rattle.std.proofs.Math.Path.{fun_ext}
@@ -103,9 +103,9 @@ ports_booted made (p ∷ old) port calls unmade is zero q h = (let same : port �
 ports_booted made (p ∷ old) port calls unmade is (suc cpu) q h = unmade_at made old (All-tail (λ p. made p ≡ []) p old unmade) cpu q h ∙ sym (ap (λ b. cond b calls []) (not_zero cpu))
 
 -- the first port has made boot's calls
-pub first_booted : {P : Type 0} (made : P → List ModuleCall) (ports : List P) (d : P) (calls : List ModuleCall) → 0 < length ports → PortsBooted made ports calls → made (get_or ports 0 d) ≡ calls
-first_booted made [] d calls some booted = absurd (omega (arith, some))
-first_booted made (p ∷ ports) d calls some booted = booted 0 p refl
+pub first_booted : {P : Type 0} (made : P → List ModuleCall) (ports : List P) (port : P) (calls : List ModuleCall) → 0 < length ports → PortsBooted made ports calls → port ≡ get_or ports 0 port → made port ≡ calls
+first_booted made [] port calls some booted is = absurd (omega (arith, some))
+first_booted made (p ∷ ports) port calls some booted is = ap made is ∙ booted 0 p refl
 
 ports_case : {P : Type 0} (made : P → List ModuleCall) (p : P) (old : List P) (port : P) (calls : List ModuleCall) (r : Recorded) → PortsBooted made (p ∷ old) calls → AllByRecursion (λ (e : Entry). e.cpu.0 ≡ 0) r.entries → made port ≡ port_calls r 0 → (cpu : ℕ) (q : P) → slice_get (port ∷ old) cpu ≡ Some q → made q ≡ port_calls r cpu
 ports_case made p old port calls r booted mine is zero q h = (let same : port ≡ q = cc in ap made (sym same) ∙ is)

@@ -1,4 +1,4 @@
-use Rattle.std.proofs.Common.{◌≡◌, ℕ, ◌+◌, ◌-◌, ◌*◌, ◌/◌, ◌<◌, ◌≤◌, Bool, true, false, ◌&&◌, Option, None, Some, List, refl, sym, ◌∙◌, ap, subst, arith, cond}
+use Rattle.std.proofs.Common.{◌≡◌, ℕ, ◌+◌, ◌-◌, ◌*◌, ◌/◌, ◌<◌, ◌≤◌, Bool, true, false, ◌&&◌, Option, None, List, refl, sym, ◌∙◌, ap, subst, arith, cond}
 use Rattle.std.proofs.Math.Path.{fun_ext}
 use Rattle.std.proofs.Math.Nat.{mul-div_cancel, mul-le-mul_right}
 use Rattle.guest_base.specs.Ranges.{in_range}
@@ -11,8 +11,7 @@ use Rattle.event_core.specs.Acceptance.{AcceptanceSteps}
 use Rattle.event_core.specs.MemoryRows.{page_state, is_pending, pending_in, pages_first, pages_count, AcceptsUnits}
 use Rattle.event_core.specs.Units.{unit_pages}
 use Rattle.page_module.specs.Spans.{Taken}
-use Rattle.page_module.specs.States.{state_in}
-use Rattle.accept_sizes.specs.Accepts.{Accepts, pending_of, span_end}
+use Rattle.accept_sizes.specs.Accepts.{Accepts, pending_of}
 use Rattle.memory_core.specs.Steps.{pages_of, HasStates}
 
 -- The pages of units, and what is accepted in a span.

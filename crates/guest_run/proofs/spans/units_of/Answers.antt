@@ -1,5 +1,4 @@
 use Rattle.guest_run.proofs.SpanLemmas.{pages-of-units}
-use Rattle.guest_run.proofs.ReadyLemmas.{ready-query}
 use Rattle.guest_run.proofs.spans.units_of.Goals as goal
 
 pub returns : goal.returns

@@ -1,5 +1,4 @@
-use Rattle.std.proofs.Common.{◌≡◌, ◌+◌, Option, None, sym, ◌∙◌, ap, subst, refl}
-use Rattle.event_core.specs.declared.entry.Entry.{Entry}
+use Rattle.std.proofs.Common.{Option, None, sym, ◌∙◌, ap, subst, refl}
 use Rattle.event_core.specs.declared.entry.Turn.{Turn}
 use Rattle.event_core.specs.declared.entry.Place.TheVariants as place
 use Rattle.event_core.specs.declared.event.Event.TheVariants as event

@@ -1,10 +1,9 @@
-use Rattle.std.proofs.Common.{◌≡◌, ◌+◌, sym, ap, subst, refl}
+use Rattle.std.proofs.Common.{◌+◌, sym, ap, subst, refl}
 use Rattle.event_core.specs.declared.entry.Turn.{Turn}
 use Rattle.event_core.specs.declared.event.Event.TheVariants.{Asked}
 use Rattle.memory_core.specs.Steps.{Appends}
-use Rattle.memory_core.specs.Value.{MemoryValue}
 use Rattle.guest_run.specs.declared.processor.Processor.{Processor}
-use Rattle.guest_run.specs.Ready.{Ready, next_turn}
+use Rattle.guest_run.specs.Ready.{Ready}
 use Rattle.guest_run.proofs.ReadyLemmas.{last-small, ready-room, ready-query}
 use Rattle.guest_run.proofs.processor.Processor.query.Goals as goal
 

@@ -1,29 +1,24 @@
-use Rattle.std.proofs.Common.{◌≡◌, ◌+◌, ◌++◌, ◌<◌, Option, Some, None, sym, ◌∙◌, ap, subst, refl}
+use Rattle.std.proofs.Common.{◌≡◌, ◌++◌, ◌<◌, Option, sym, ◌∙◌, ap, subst}
 use Rattle.std.specs.Prelude.{IfSome}
-use Rattle.event_core.specs.declared.entry.Entry.{Entry}
 use Rattle.event_core.specs.declared.entry.Turn.{Turn}
-use Rattle.event_core.specs.declared.entry.Place.TheVariants as place
 use Rattle.event_core.specs.declared.event.Event.TheVariants as event
-use Rattle.event_core.specs.declared.reply.Reply.{Reply}
 use Rattle.event_core.specs.Calls.{calls_of}
-use Rattle.event_core.specs.Claims.{Claimed, claim_of}
 use Rattle.event_core.specs.MemoryRows.{report_event}
 use Rattle.event_core.proofs.StandingLemmas.{calls_of-push}
 use Rattle.page_module.specs.Spans.{Taken}
 use Rattle.memory_core.specs.Answers.{ReportedBy}
 use Rattle.memory_core.specs.Steps.{Appends, bare_entry, last_stamp, pages_of}
 use Rattle.guest_run.specs.declared.processor.Processor.{Processor}
-use Rattle.guest_run.specs.Answered.{IsRunOf, reply_in}
-use Rattle.guest_run.specs.Ready.{EndsOr, calls_by_now, next_turn}
-use Rattle.guest_run.proofs.ReadyLemmas.{claiming-report, report-whole, report-further, with_entry}
+use Rattle.guest_run.specs.Answered.{IsRunOf}
+use Rattle.guest_run.specs.Ready.{calls_by_now}
+use Rattle.guest_run.proofs.ReadyLemmas.{claiming-report, report-added, report-whole, report-further, claim-has}
 use Rattle.guest_run.proofs.processor.Processor.report.Goals as goal
 
 pub run_of-requires-clause-whole : goal.run_of-requires-clause-whole
 run_of-requires-clause-whole g c =
     let p = c.args.self.now in
     let claiming = c.requires.claiming in
-    let has : claim_of p.memory.boot p.memory.entries c.turn-turn.result.cpu.0 ≡ Some claiming.claim =
-    ap (λ (t : Turn). claim_of p.memory.boot p.memory.entries t.cpu.0) c.turn-turn.ensures.turn ∙ ap (λ b. claim_of b p.memory.entries 0) claiming.same ∙ claiming.at.claims in
+    let has = claim-has p c.args.number c.args.span c.turn-turn.result claiming c.turn-turn.ensures.turn in
     let appends = c.report.ensures.appends claiming.claim has in
     let W : Option Taken → Type 0 = λ o. IfSome o (λ s. (units : _) × (s.ticket.pages ≡ pages_of p.boot units)) in
     subst W (sym c.after_report-next.ensures.next)
@@ -37,25 +32,20 @@ returns-clause-goes_on g c =
     let memory = c.report.new.self in
     let turned = c.report.new.turn in
     let next = c.run_of.result in
-    let has : claim_of p.memory.boot p.memory.entries c.turn-turn.result.cpu.0 ≡ Some claiming.claim =
-    ap (λ (t : Turn). claim_of p.memory.boot p.memory.entries t.cpu.0) c.turn-turn.ensures.turn ∙ ap (λ b. claim_of b p.memory.entries 0) claiming.same ∙ claiming.at.claims in
+    let has = claim-has p c.args.number c.args.span c.turn-turn.result claiming c.turn-turn.ensures.turn in
     let A : Turn → Type 0 = λ t. Appends p.memory memory t turned (report_event p.memory.boot claiming.claim calls) in
     let B : Turn → Type 0 = λ t. ReportedBy p.memory memory t claiming.claim calls c.report.result in
     let N : Option Taken → Type 0 = λ o. IsRunOf p.boot o next in
     let goes = claiming-report p c.args.number memory turned c.args.span c.accept_span.new.span c.units_of-run.result calls c.in_ok-copy.copy c.stopped_page.result c.report.result next claiming
-    (ap (λ pages. pages) (sym c.pages.ensures.value) ∙ c.units_of-run.ensures) c.in_ok-calls.ensures.accepts c.in_ok-copy.ensures (c.stopped_page.ensures ∙ sym c.in_ok-calls.ensures.stop)
+    (sym c.pages.ensures.value ∙ c.units_of-run.ensures) c.in_ok-calls.ensures.accepts c.in_ok-copy.ensures (c.stopped_page.ensures ∙ sym c.in_ok-calls.ensures.stop)
     (subst B c.turn-turn.ensures.turn (c.report.ensures.reported claiming.claim has)) (subst N c.after_report-next.ensures.next c.run_of.ensures) (subst A c.turn-turn.ensures.turn (c.report.ensures.appends claiming.claim has)) in
-    let R : Option Reply → Type 0 = λ r. EndsOr (with_entry p memory turned.clock c.args.number place.Memory (event.Report c.units_of-run.result c.in_ok-copy.copy c.stopped_page.result next) r) c.args.number c.after_report-next.result.0 in
-    let S : Option Taken → Type 0 = λ o. EndsOr (with_entry p memory turned.clock c.args.number place.Memory (event.Report c.units_of-run.result c.in_ok-copy.copy c.stopped_page.result next) (reply_in c.report.result)) c.args.number o in
-    let P : Processor → Type 0 = λ q. EndsOr q c.args.number c.after_report-next.result.0 in
-    subst P (sym c.in_ok-add.ensures) (subst R (sym c.after_report-next.ensures.reply) (subst S (sym c.after_report-next.ensures.next) goes))
+    report-added p c.add.new.self c.args.number turned.clock memory (event.Report c.units_of-run.result c.in_ok-copy.copy c.stopped_page.result next) c.after_report-next.result.1 c.report.result c.after_report-next.result.0 c.in_ok-add.ensures c.after_report-next.ensures.reply c.after_report-next.ensures.next goes
 
 pub returns-clause-further : goal.returns-clause-further
 returns-clause-further g c =
     let p = c.args.self.now in
     let claiming = c.requires.claiming in
-    let has : claim_of p.memory.boot p.memory.entries c.turn-turn.result.cpu.0 ≡ Some claiming.claim =
-    ap (λ (t : Turn). claim_of p.memory.boot p.memory.entries t.cpu.0) c.turn-turn.ensures.turn ∙ ap (λ b. claim_of b p.memory.entries 0) claiming.same ∙ claiming.at.claims in
+    let has = claim-has p c.args.number c.args.span c.turn-turn.result claiming c.turn-turn.ensures.turn in
     let appends = c.report.ensures.appends claiming.claim has in
     let W : Option Taken → Type 0 = λ o. IfSome o (λ s. c.args.span.ticket.pages.first < s.ticket.pages.first) in
     subst W (sym c.after_report-next.ensures.next)
@@ -67,8 +57,7 @@ returns-clause-made g c was =
     let p = c.args.self.now in
     let claiming = c.requires.claiming in
     let calls = c.in_ok-calls.calls in
-    let has : claim_of p.memory.boot p.memory.entries c.turn-turn.result.cpu.0 ≡ Some claiming.claim =
-    ap (λ (t : Turn). claim_of p.memory.boot p.memory.entries t.cpu.0) c.turn-turn.ensures.turn ∙ ap (λ b. claim_of b p.memory.entries 0) claiming.same ∙ claiming.at.claims in
+    let has = claim-has p c.args.number c.args.span c.turn-turn.result claiming c.turn-turn.ensures.turn in
     let appends = c.report.ensures.appends claiming.claim has in
     let after : calls_of p.boot c.report.new.self.entries ≡ calls_of p.boot p.memory.entries ++ calls =
     ap (calls_of p.boot) appends.entries ∙ calls_of-push p.boot p.memory.entries (bare_entry c.turn-turn.result (last_stamp p.memory.entries) (report_event p.memory.boot claiming.claim calls)) in
