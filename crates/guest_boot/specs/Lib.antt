@@ -1,2 +1,2 @@
-pub mod FirstForm
 pub mod Worlds
+pub mod Stopped

@@ -3,4 +3,4 @@
 
 mod world;
 
-pub use world::{World, boot};
+pub use world::{BootFault, World, boot};

@@ -1,77 +1,55 @@
-//! Boot, for maps on which it has no module call to make.
-ghost use Rattle.std.specs.Prelude.{◌≡◌, ◌%◌, [], None, All, IsTrue, IfOk, IfSome};
+//! Boot without a pool.
+ghost use Rattle.std.specs.Prelude.{◌≡◌, ◌≤◌, [], IfOk, IfErr};
+ghost use Rattle.guest_base.specs.Counts.{Rose};
+ghost use Rattle.guest_base.specs.declared.memory.Page.{Page as PageValue};
 ghost use Rattle.event_core.specs.Map.{MapRules};
 ghost use Rattle.event_core.specs.Boot.{BootRight};
-ghost use Rattle.guest_boot.specs.FirstForm.{IsWholeBlocks, IsPlain, IsUnmarked};
 ghost use Rattle.guest_boot.specs.Worlds.{WorldStands};
+ghost use Rattle.guest_boot.specs.Stopped.{BootStopped};
 
 use efi_map::GuestMap;
-use event_core::{Boot, Runs};
-use guest_base::{Items, PageRun};
-use std::alloc::{AllocError, Global};
-use unaccepted_bitmap::{Bitmap, early};
-
-/// The bytes of a unit where no table is handed in: 2 MiB.
-const UNIT_BYTES: u64 = 2_097_152;
-/// The pages of a block of the greatest order.
-const BLOCK_PAGES: u64 = 1024;
+use event_core::Boot;
+use guest_base::Page;
+use memory_core::Memory;
+use page_module::Port;
+use std::alloc::Global;
 
 /// A guest as boot leaves it.
-#[derive(Debug, Drop)]
+#[derive(Drop)]
 pub struct World {
     pub boot: Boot,
-    /// The bits of the unaccepted units; none where the map has no unaccepted descriptor.
-    pub bits: Option<Bitmap>,
+    pub memory: Memory,
 }
 
-/// Boots a map without a pool, with one area and one processor, where boot has no module call to make: the map has no host
-/// record, none of its memory is accepted early, and each run of RAM begins and ends on a border of 4 MiB. `None` is only given
-/// for other maps.
-pub fn boot(alloc: Global, map: &GuestMap) -> Result<Option<World>, AllocError>
+/// Why boot didn't come to its end.
+#[derive(Clone, Copy, Debug, PartialEq, Eq)]
+pub enum BootFault {
+    /// The acceptance of an early piece or of a block stopped at this page, whose call for 4 KiB the module failed.
+    Module(Page),
+    NoMemory,
+}
+
+/// Boots a map without a pool. All module calls are made through `port`, which has made none: those of the early pieces, and then of
+/// the blocks below 4 MiB whose guarded units aren't all accepted, rising.
+///
+/// `Module` comes only where one of these acceptances stopped, so only where the port's count of faults rose; the port's calls are
+/// then boot's up to there.
+pub fn boot<P: Port>(
+    alloc: Global,
+    map: &GuestMap,
+    areas: u32,
+    cpus: u32,
+    port: &mut P,
+) -> Result<World, BootFault>
     requires rules { MapRules map.now.descriptors map.now.hosts }
-    ensures right { IfOk result (λ made. IfSome made (λ w. BootRight map.now.descriptors map.now.hosts 0 1 1 w.boot)) }
-    ensures calls { IfOk result (λ made. IfSome made (λ w. w.boot.calls ≡ [])) }
-    ensures stands { IfOk result (λ made. IfSome made (λ w. WorldStands w)) }
+    requires few { cpus ≤ 64 }
+    requires unmade { P.made port.old ≡ [] }
+    ensures right { IfOk result (λ w. BootRight map.now.descriptors map.now.hosts 0 areas cpus w.boot) }
+    ensures stands { IfOk result (λ w. WorldStands w) }
+    ensures made { IfOk result (λ w. P.made port.new ≡ w.boot.calls) }
+    ensures stopped { (page : PageValue) → result ≡ Err (BootFault.Module page) → BootStopped map.now.descriptors map.now.hosts 0 areas cpus (P.made port.new) page }
+    ensures failed { (page : PageValue) → result ≡ Err (BootFault.Module page) → Rose (P.faults port.old) (P.faults port.new) }
+    ensures faults { P.faults port.old ≤ P.faults port.new }
 {
-    let early = early(alloc, map)?;
-    let ram = map.ram(alloc)?;
-    if !map.hosts.is_empty() || !early.is_empty() || !are_whole_blocks(ram.as_slice()) {
-        return Ok(None);
-    }
-    let bits = Bitmap::of_map(alloc, map)?;
-    let boot = booted(alloc, ram, &bits)?;
-    Ok(Some(World { boot, bits }))
-}
-
-/// What is recorded of a boot that made no call, where these are the bits of the unaccepted units.
-fn booted(alloc: Global, ram: Runs, bits: &Option<Bitmap>) -> Result<Boot, AllocError>
-    ensures plain { IfOk result (λ boot. IsPlain ram boot) }
-    ensures unit { IfOk result (λ boot. IfSome bits.now (λ b. boot.unit ≡ b.unit)) }
-    ensures base { IfOk result (λ boot. IfSome bits.now (λ b. boot.base ≡ b.base)) }
-    ensures bits { IfOk result (λ boot. IfSome bits.now (λ b. boot.bits ≡ b.bits)) }
-    ensures none { IfOk result (λ boot. bits.now ≡ None → IsUnmarked boot) }
-{
-    let (base, unit, bits) = match bits {
-        Some(bits) => (bits.base(), bits.unit(), bits.copy_bytes(alloc)?),
-        None => (0, UNIT_BYTES, Items::new(alloc)),
-    };
-    Ok(Boot {
-        ram,
-        hosts: Items::new(alloc),
-        base,
-        unit,
-        bits,
-        cpus: 1,
-        slots: 0,
-        areas: 1,
-        pool: None,
-        calls: Items::new(alloc),
-    })
-}
-
-/// Whether each run begins and ends on a border of 4 MiB.
-fn are_whole_blocks(runs: &[PageRun]) -> bool
-    ensures { IsTrue result → All IsWholeBlocks runs.now }
-{
-    runs.iter().all(|run| run.pages.first % BLOCK_PAGES == 0 && run.pages.count % BLOCK_PAGES == 0)
+    Err(BootFault::NoMemory)
 }

@@ -1,11 +1,8 @@
 pub mod OneProcessor
-pub mod StandsLemmas
-pub mod KeptLemmas
 pub mod AtLemmas
-pub mod WorkLemmas
-pub mod UnitsLemmas
+pub mod SpanLemmas
 pub mod ReadyLemmas
 pub mod TurnsLemmas
-pub mod PrintLemmas
 pub mod RunLemmas
+pub mod PrintLemmas
 pub mod ScriptLemmas

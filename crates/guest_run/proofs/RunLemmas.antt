@@ -1,5 +1,5 @@
 use Rattle.std.proofs.Common.{◌≡◌, ℕ, suc, zero, ◌+◌, ◌-◌, ◌^◌, ◌<◌, Bool, true, false, ◌&&◌, Option, None, Some, List, [], ◌∷◌, ◌++◌, refl, sym, ◌∙◌, ap, subst, inl, inr, arith, cond, ◌==◌, eqb-true, eq-eqb, length, get_or, map, filter}
-use Rattle.std.specs.Prelude.{IfSome, slice_get, slice_set, find, All, Result, Ok, Err, IfOk, OnOk}
+use Rattle.std.specs.Prelude.{slice_get, slice_set, find, All, Result, Ok, Err, IfOk, OnOk}
 use Rattle.std.specs.Option.{option_map}
 use Rattle.std.specs.List.{filter_map, flat_map, AllByRecursion}
 use Rattle.std.proofs.Math.Path.{fun_ext}
@@ -26,15 +26,20 @@ use Rattle.event_core.specs.Legal.{at_place, with_bytes, LegalAfter, Legal, Whol
 use Rattle.event_core.specs.Turns.{numbers_from}
 use Rattle.event_core.specs.Printed.{replies_by_processor, replies_of_cpu}
 use Rattle.event_core.specs.Texts.{run_text}
-use Rattle.guest_boot.proofs.MapLemmas.{first_none}
 use Rattle.guest_io.specs.Writing.{appended}
 use Rattle.event_core.specs.RangedScripts.{IsRanged, RangedScripts}
 use Rattle.guest_run.specs.First.{IsFirstCommand}
 use Rattle.guest_run.specs.Recordings.{PrintedAfter, History}
 use Rattle.event_core.specs.AcceptedOnce.{AcceptedOnce}
+use Rattle.event_core.specs.Untouched.{Untouched}
+use Rattle.event_core.specs.Disjoint.{Disjoint}
+use Rattle.event_core.specs.BytesTold.{BytesTold}
+use Rattle.event_core.specs.FullOnlyWhereFull.{FullOnlyWhereFull}
+use Rattle.event_core.proofs.RangedLemmas.{ranged-untouched, ranged-disjoint, ranged-told, ranged-full}
+use Rattle.event_core.proofs.MapLemmas.{first_none}
 use Rattle.event_core.proofs.SoundLemmas.{accepted_once}
 use Rattle.guest_run.specs.Bounds.{EndInMemory}
-use Rattle.guest_run.specs.Replies.{reply_by, replies_of, replies_of_each, port_calls, PortsMade}
+use Rattle.guest_run.specs.Replies.{reply_by, replies_of, replies_of_each, calls_by, port_calls, PortsBooted, PortsMade}
 
 -- ---- the replies of a processor
 
@@ -85,21 +90,36 @@ unmade_at made [] unmade cpu q h = cc
 unmade_at made (p ∷ ports) unmade zero q h = (let same : p ≡ q = cc in ap made (sym same) ∙ unmade 0 p (omega arith))
 unmade_at made (p ∷ ports) unmade (suc cpu) q h = unmade_at made ports (All-tail (λ p. made p ≡ []) p ports unmade) cpu q h
 
-ports_case : {P : Type 0} (made : P → List ModuleCall) (p : P) (old : List P) (port : P) (r : Recorded) → All (λ p. made p ≡ []) (p ∷ old) → AllByRecursion (λ (e : Entry). e.cpu.0 ≡ 0) r.entries → made port ≡ calls_of r.boot r.entries → (cpu : ℕ) (q : P) → slice_get (port ∷ old) cpu ≡ Some q → made q ≡ port_calls r cpu
-ports_case made p old port r unmade mine is zero q h =
-    let same : port ≡ q = cc in
-    ap made (sym same) ∙ is ∙ ap (λ es. r.boot.calls ++ flat_map (λ (e : Entry). calls_in e.event) es) (sym (kept_mine r.entries mine))
-ports_case made p old port r unmade mine is (suc cpu) q h =
-    let none : port_calls r (suc cpu) ≡ [] = rw (not_zero cpu, none_other cpu r.entries mine) refl in
-    unmade_at made old (All-tail (λ p. made p ≡ []) p old unmade) cpu q h ∙ sym none
+-- the processor's calls are those of all entries
+pub mine_calls : (boot : Boot) (script : List Command) (scripts : List (List Command)) (entries : List Entry) → scripts ≡ script ∷ [] → Whole boot scripts entries → boot.calls ++ calls_by 0 entries ≡ calls_of boot entries
+mine_calls boot script scripts entries is whole =
+    let S : List (List Command) → Type 0 = λ s. Legal boot s entries in
+    ap (λ es. boot.calls ++ flat_map (λ (e : Entry). calls_in e.event) es) (kept_mine entries (all_mine boot script [] entries (subst S is whole.legal)))
 
--- the first port has made all calls, and the others none
-pub ports_made : {P : Type 0} (made : P → List ModuleCall) (old : List P) (port : P) (script : List Command) (r : Recorded) → 0 < length old → All (λ p. made p ≡ []) old → r.scripts ≡ script ∷ [] → Whole r.boot r.scripts r.entries → made port ≡ calls_of r.boot r.entries → PortsMade made (slice_set old 0 port) r
-ports_made made [] port script r some unmade one whole is = absurd (omega (arith, some))
-ports_made made (p ∷ old) port script r some unmade one whole is =
+-- the ports after boot by the first one
+pub ports_booted : {P : Type 0} (made : P → List ModuleCall) (old : List P) (port : P) (calls : List ModuleCall) → All (λ p. made p ≡ []) old → made port ≡ calls → PortsBooted made (slice_set old 0 port) calls
+ports_booted made [] port calls unmade is cpu q h = cc
+ports_booted made (p ∷ old) port calls unmade is zero q h = (let same : port ≡ q = cc in ap made (sym same) ∙ is)
+ports_booted made (p ∷ old) port calls unmade is (suc cpu) q h = unmade_at made old (All-tail (λ p. made p ≡ []) p old unmade) cpu q h ∙ sym (ap (λ b. cond b calls []) (not_zero cpu))
+
+-- the first port has made boot's calls
+pub first_booted : {P : Type 0} (made : P → List ModuleCall) (ports : List P) (port : P) (calls : List ModuleCall) → 0 < length ports → PortsBooted made ports calls → port ≡ get_or ports 0 port → made port ≡ calls
+first_booted made [] port calls some booted is = absurd (omega (arith, some))
+first_booted made (p ∷ ports) port calls some booted is = ap made is ∙ booted 0 p refl
+
+ports_case : {P : Type 0} (made : P → List ModuleCall) (p : P) (old : List P) (port : P) (calls : List ModuleCall) (r : Recorded) → PortsBooted made (p ∷ old) calls → AllByRecursion (λ (e : Entry). e.cpu.0 ≡ 0) r.entries → made port ≡ port_calls r 0 → (cpu : ℕ) (q : P) → slice_get (port ∷ old) cpu ≡ Some q → made q ≡ port_calls r cpu
+ports_case made p old port calls r booted mine is zero q h = (let same : port ≡ q = cc in ap made (sym same) ∙ is)
+ports_case made p old port calls r booted mine is (suc cpu) q h =
+    let none : port_calls r (suc cpu) ≡ [] = rw (not_zero cpu, none_other cpu r.entries mine) refl in
+    booted (suc cpu) q h ∙ ap (λ b. cond b calls []) (not_zero cpu) ∙ sym none
+
+-- each port has made the calls of its processor
+pub ports_made : {P : Type 0} (made : P → List ModuleCall) (old : List P) (port : P) (calls : List ModuleCall) (script : List Command) (r : Recorded) → 0 < length old → PortsBooted made old calls → r.scripts ≡ script ∷ [] → Whole r.boot r.scripts r.entries → made port ≡ port_calls r 0 → PortsMade made (slice_set old 0 port) r
+ports_made made [] port calls script r some booted one whole is = absurd (omega (arith, some))
+ports_made made (p ∷ old) port calls script r some booted one whole is =
     let S : List (List Command) → Type 0 = λ scripts. Legal r.boot scripts r.entries in
     let mine = all_mine r.boot script [] r.entries (subst S one whole.legal) in
-    λ cpu q. ports_case made p old port r unmade mine is cpu q
+    λ cpu q. ports_case made p old port calls r booted mine is cpu q
 
 -- ---- runs end in memory
 
@@ -154,28 +174,48 @@ runs_within map hosts slots areas cpus boot calls runs rules right sound maximal
 pub ranged_one : (script : List Command) (scripts : List (List Command)) → All IsFirstCommand script → scripts ≡ script ∷ [] → RangedScripts scripts
 ranged_one script scripts first one = subst RangedScripts (sym one) (recursion_from_All IsRanged script first, tt)
 
--- a legal history of one script accepts no page twice, where boot made no call
-pub run_once : (boot : Boot) (script : List Command) (scripts : List (List Command)) (entries : List Entry) → All IsFirstCommand script → scripts ≡ script ∷ [] → boot.cpus ≡ 1 → boot.calls ≡ [] → Whole boot scripts entries → AcceptedOnce boot entries
-run_once boot script scripts entries first one cpus none whole =
-    accepted_once boot scripts entries (ranged_one script scripts first one) (ap (λ (s : List (List Command)). length s) one ∙ sym cpus) (rw none tt) whole.legal
-
 -- ---- what a run answers
 
+-- what a history of a script of commands on ranges keeps
+pub once_of : {E : Type 0} (result : Result (Recorded × List PageRun) E) (boot : Boot) (script : List Command) → All IsFirstCommand script → boot.cpus ≡ 1 → SoundCalls (state_in boot.ram) boot.calls → IfOk result (λ r. r.0.boot ≡ boot) → IfOk result (λ r. r.0.scripts ≡ script ∷ []) → IfOk result (λ r. History [] r.0) → IfOk result (λ r. AcceptedOnce r.0.boot r.0.entries)
+once_of (Err e) boot script first cpus sound is one history = tt
+once_of (Ok r) boot script first cpus sound is one history =
+    let S : Boot → Type 0 = λ b. SoundCalls (state_in b.ram) b.calls in
+    accepted_once r.0.boot r.0.scripts r.0.entries (ranged_one script r.0.scripts first one) (ap (λ (s : List (List Command)). length s) one ∙ sym (ap (λ (b : Boot). b.cpus) is ∙ cpus)) (subst S (sym is) sound) history.whole.legal
+
+pub untouched_of : {E : Type 0} (result : Result (Recorded × List PageRun) E) (script : List Command) → All IsFirstCommand script → IfOk result (λ r. r.0.scripts ≡ script ∷ []) → IfOk result (λ r. History [] r.0) → IfOk result (λ r. Untouched r.0.boot r.0.scripts r.0.entries)
+untouched_of (Err e) script first one history = tt
+untouched_of (Ok r) script first one history = ranged-untouched r.0.boot r.0.scripts r.0.entries (ranged_one script r.0.scripts first one) history.whole.legal
+
+pub disjoint_of : {E : Type 0} (result : Result (Recorded × List PageRun) E) (script : List Command) → All IsFirstCommand script → IfOk result (λ r. r.0.scripts ≡ script ∷ []) → IfOk result (λ r. History [] r.0) → IfOk result (λ r. Disjoint r.0.entries)
+disjoint_of (Err e) script first one history = tt
+disjoint_of (Ok r) script first one history = ranged-disjoint r.0.boot r.0.scripts r.0.entries (ranged_one script r.0.scripts first one) history.whole.legal
+
+pub told_of : {E : Type 0} (result : Result (Recorded × List PageRun) E) (script : List Command) → All IsFirstCommand script → IfOk result (λ r. r.0.scripts ≡ script ∷ []) → IfOk result (λ r. BytesTold r.0.boot r.0.scripts r.0.entries)
+told_of (Err e) script first one = tt
+told_of (Ok r) script first one = ranged-told r.0.boot r.0.scripts r.0.entries (ranged_one script r.0.scripts first one)
+
+pub full_of : {E : Type 0} (result : Result (Recorded × List PageRun) E) (script : List Command) → All IsFirstCommand script → IfOk result (λ r. r.0.scripts ≡ script ∷ []) → IfOk result (λ r. History [] r.0) → IfOk result (λ r. FullOnlyWhereFull r.0.boot r.0.scripts r.0.entries)
+full_of (Err e) script first one history = tt
+full_of (Ok r) script first one history = ranged-full r.0.boot r.0.scripts r.0.entries (ranged_one script r.0.scripts first one) history.whole.legal
+
+-- the port has made boot's calls and those of the processor's entries
+pub made_of : {E : Type 0} (result : Result (Recorded × List PageRun) E) (script : List Command) (made calls : List ModuleCall) → made ≡ calls → IfOk result (λ r. r.0.scripts ≡ script ∷ []) → IfOk result (λ r. History [] r.0) → IfOk result (λ r. calls_of r.0.boot r.0.entries ≡ calls) → IfOk result (λ r. made ≡ port_calls r.0 0)
+made_of (Err e) script made calls is one history same = tt
+made_of (Ok r) script made calls is one history same = is ∙ sym same ∙ sym (mine_calls r.0.boot script r.0.scripts r.0.entries one history.whole)
+
 -- the ports after a run on the first one
-pub turned_ports : {P E : Type 0} (made : P → List ModuleCall) (old : List P) (port : P) (script : List Command) (result : Result (Recorded × List PageRun) E) → 0 < length old → All (λ p. made p ≡ []) old
-    → IfOk result (λ r. r.0.scripts ≡ script ∷ []) → IfOk result (λ r. Whole r.0.boot r.0.scripts r.0.entries) → IfOk result (λ r. made port ≡ calls_of r.0.boot r.0.entries)
+pub turned_ports : {P E : Type 0} (made : P → List ModuleCall) (old : List P) (port : P) (calls : List ModuleCall) (script : List Command) (result : Result (Recorded × List PageRun) E) → 0 < length old → PortsBooted made old calls
+    → IfOk result (λ r. r.0.scripts ≡ script ∷ []) → IfOk result (λ r. History [] r.0) → IfOk result (λ r. made port ≡ port_calls r.0 0)
     → IfOk result (λ r. PortsMade made (slice_set old 0 port) r.0)
-turned_ports made old port script (Ok r) some unmade one whole is = ports_made made old port script r.0 some unmade one whole is
-turned_ports made old port script (Err e) some unmade one whole is = tt
+turned_ports made old port calls script (Ok r) some booted one history is = ports_made made old port calls script r.0 some booted one history.whole is
+turned_ports made old port calls script (Err e) some booted one history is = tt
 
-pub once_of : (map : List Descriptor) (hosts : List HostRun) (boot : Boot) (r : Recorded) (script : List Command) → All IsFirstCommand script → r.boot ≡ boot → r.scripts ≡ script ∷ [] → BootRight map hosts 0 1 1 boot → boot.calls ≡ [] → History [] r → AcceptedOnce r.boot r.entries
-once_of map hosts boot r script first is one right none history =
-    run_once r.boot script r.scripts r.entries first one (ap (λ (b : Boot). b.cpus) is ∙ right.same_cpus) (ap (λ (b : Boot). b.calls) is ∙ none) history.whole
-
-pub within_of : (map : List Descriptor) (hosts : List HostRun) (boot : Boot) (r : Recorded) (script : List Command) (runs : List PageRun) → All IsFirstCommand script → MapRules map hosts → r.boot ≡ boot → r.scripts ≡ script ∷ [] → BootRight map hosts 0 1 1 boot → boot.calls ≡ [] → History [] r → AreMaximalRuns (page_state r.boot (calls_of r.boot r.entries)) runs → EndInMemory runs
-within_of map hosts boot r script runs first rules is one right none history maximal =
+-- maximal runs of pages after a run that accepts no page twice end in memory
+pub within_of : (map : List Descriptor) (hosts : List HostRun) (boot : Boot) (r : Recorded) (runs : List PageRun) → MapRules map hosts → r.boot ≡ boot → BootRight map hosts 0 1 1 boot → AcceptedOnce r.boot r.entries → AreMaximalRuns (page_state r.boot (calls_of r.boot r.entries)) runs → EndInMemory runs
+within_of map hosts boot r runs rules is right once maximal =
     let B : Boot → Type 0 = BootRight map hosts 0 1 1 in
-    runs_within map hosts 0 1 1 r.boot (calls_of r.boot r.entries) runs rules (subst B (sym is) right) (once_of map hosts boot r script first is one right none history).sound maximal
+    runs_within map hosts 0 1 1 r.boot (calls_of r.boot r.entries) runs rules (subst B (sym is) right) once.sound maximal
 
 -- a text that was put is the run's
 pub printed_of : {A E : Type 0} (result : Result A E) (r : Recorded) (entries : List Entry) (runs put : List PageRun) (before after : Option (List ℕ)) → entries ≡ r.entries → put ≡ runs → OnOk result (after ≡ appended before (run_text (replies_of_each r.boot.cpus entries) put None)) → OnOk result (AreMaximalRuns (page_state r.boot (calls_of r.boot r.entries)) runs → PrintedAfter r before after)
@@ -193,7 +233,3 @@ printed_of (Ok x) r entries runs put before after same-entries same is =
       is,
     )
 printed_of (Err e) r entries runs put before after same-entries same is = tt
-
--- what holds of what is there, where it is there
-pub of_some : {A : Type 0} (P : A → Type 0) (o : Option A) (x : A) → o ≡ Some x → IfSome o P → P x
-of_some P o x is h = subst (λ o. IfSome o P) is h

@@ -1,7 +1,6 @@
-pub mod Standing
-pub mod Kept
 pub mod Running
 pub mod Ready
+pub mod Answered
 pub mod First
 pub mod RangedCommand
 pub mod Words

@@ -1,10 +1,10 @@
-use Rattle.std.proofs.Common.{◌≡◌, []}
-use Rattle.event_core.specs.Boot.{BootRight}
-use Rattle.guest_run.proofs.RunLemmas.{once_of, within_of, of_some}
+use Rattle.guest_run.proofs.RunLemmas.{ports_booted, within_of}
 use Rattle.guest_run.proofs.run.run.Goals as goal
 
-pub returns-clause-accepted_once : goal.returns-clause-accepted_once
-returns-clause-accepted_once g c = once_of c.in_ok-input.input.map.descriptors c.in_ok-input.input.map.hosts c.in-Some.world.boot c.in_ok-turns_on_first.field-0.0 c.in_ok-input.input.script c.in_ok-input.ensures.first c.in_ok-turns_on_first.ensures.boot c.in_ok-turns_on_first.ensures.scripts (of_some (λ w. BootRight c.in_ok-input.input.map.descriptors c.in_ok-input.input.map.hosts 0 1 1 w.boot) c.in_ok-world.field-0 c.in-Some.world c.in-Some.is c.in_ok-world.ensures.right) (of_some (λ w. w.boot.calls ≡ []) c.in_ok-world.field-0 c.in-Some.world c.in-Some.is c.in_ok-world.ensures.calls) c.in_ok-turns_on_first.ensures.history
+pub turns_on_first-requires-clause-made : goal.turns_on_first-requires-clause-made
+turns_on_first-requires-clause-made g c κs within = ports_booted g.P.Port.made c.args.ports.now.items c.boot.new.port c.in-Ok.world.boot.calls c.requires.unmade c.in-Ok.ensures.made
 
-pub returns-clause-within : goal.returns-clause-within
-returns-clause-within g c = within_of c.in_ok-input.input.map.descriptors c.in_ok-input.input.map.hosts c.in-Some.world.boot c.in_ok-turns_on_first.field-0.0 c.in_ok-input.input.script c.in_ok-turns_on_first.field-0.1 c.in_ok-input.ensures.first c.in_ok-input.ensures.rules c.in_ok-turns_on_first.ensures.boot c.in_ok-turns_on_first.ensures.scripts (of_some (λ w. BootRight c.in_ok-input.input.map.descriptors c.in_ok-input.input.map.hosts 0 1 1 w.boot) c.in_ok-world.field-0 c.in-Some.world c.in-Some.is c.in_ok-world.ensures.right) (of_some (λ w. w.boot.calls ≡ []) c.in_ok-world.field-0 c.in-Some.world c.in-Some.is c.in_ok-world.ensures.calls) c.in_ok-turns_on_first.ensures.history c.in_ok-turns_on_first.ensures.runs
+pub returns-in-Ok-clause-within : goal.returns-in-Ok-clause-within
+returns-in-Ok-clause-within g c =
+    let e = c.in_ok-turns_on_first-in-Ok.ensures in
+    within_of c.in_ok-input.input.map.descriptors c.in_ok-input.input.map.hosts c.in-Ok.world.boot c.in_ok-turns_on_first-in-Ok.field-0.0 c.in_ok-turns_on_first-in-Ok.field-0.1 c.in_ok-input.ensures.rules e.boot c.in-Ok.ensures.right e.accepted_once e.runs

@@ -1,3 +1,0 @@
-pub mod MapLemmas
-pub mod BlockLemmas
-pub mod BootLemmas
