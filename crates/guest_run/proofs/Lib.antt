@@ -1,11 +1,7 @@
-pub mod OneProcessor
-pub mod StandsLemmas
-pub mod KeptLemmas
-pub mod AtLemmas
-pub mod WorkLemmas
-pub mod UnitsLemmas
-pub mod ReadyLemmas
-pub mod TurnsLemmas
 pub mod PrintLemmas
-pub mod RunLemmas
+pub mod TextLemmas
+pub mod WithinLemmas
+pub mod PortsLemmas
 pub mod ScriptLemmas
+pub mod InputLemmas
+pub mod EndLemmas

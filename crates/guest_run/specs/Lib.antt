@@ -1,13 +1,11 @@
-pub mod Standing
-pub mod Kept
-pub mod Running
-pub mod Ready
 pub mod First
-pub mod RangedCommand
 pub mod Words
 pub mod Views
 pub mod Replies
 pub mod Bounds
 pub mod Stops
+pub mod Causes
+pub mod Endings
+pub mod Stopping
 pub mod Recordings
 pub mod Ends
