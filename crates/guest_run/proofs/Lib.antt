@@ -5,4 +5,9 @@ pub mod ReadyLemmas
 pub mod TurnsLemmas
 pub mod RunLemmas
 pub mod PrintLemmas
+pub mod TextLemmas
+pub mod WithinLemmas
+pub mod PortsLemmas
 pub mod ScriptLemmas
+pub mod InputLemmas
+pub mod EndLemmas

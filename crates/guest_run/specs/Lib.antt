@@ -8,5 +8,8 @@ pub mod Views
 pub mod Replies
 pub mod Bounds
 pub mod Stops
+pub mod Causes
+pub mod Endings
+pub mod Stopping
 pub mod Recordings
 pub mod Ends

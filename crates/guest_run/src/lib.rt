@@ -1,11 +1,9 @@
 //! The run of a guest.
 #![tactic(auto)]
 
-mod answers;
 mod input;
 mod one;
 mod print;
-mod processor;
 mod program;
 mod room;
 mod run;
@@ -13,7 +11,6 @@ mod spans;
 mod stop;
 mod words;
 
-pub use one::turns;
 pub use program::{Ended, plain, top};
 
 #[cfg(test)]

@@ -1,10 +1,10 @@
-use Rattle.guest_run.proofs.RunLemmas.{ports_booted, within_of}
+use Rattle.guest_run.specs.Views.{seen}
+use Rattle.guest_run.proofs.InputLemmas.{booted_of}
+use Rattle.guest_run.proofs.EndLemmas.{boot_stop_of}
 use Rattle.guest_run.proofs.run.run.Goals as goal
 
-pub turns_on_first-requires-clause-made : goal.turns_on_first-requires-clause-made
-turns_on_first-requires-clause-made g c κs within = ports_booted g.P.Port.made c.args.ports.now.items c.boot.new.port c.in-Ok.world.boot.calls c.requires.unmade c.in-Ok.ensures.made
+pub returns-clause-booted : goal.returns-clause-booted
+returns-clause-booted g c = booted_of (g.F.Files.holds c.args.files.now) (seen c.args.names.now) c.in_ok-input.input.map c.in_ok-input.input.script c.run_input.result c.in_ok-input.ensures.good c.in_ok-input.ensures.map c.in_ok-input.ensures.script c.run_input.ensures.right c.run_input.ensures.scripts
 
-pub returns-in-Ok-clause-within : goal.returns-in-Ok-clause-within
-returns-in-Ok-clause-within g c =
-    let e = c.in_ok-turns_on_first-in-Ok.ensures in
-    within_of c.in_ok-input.input.map.descriptors c.in_ok-input.input.map.hosts c.in-Ok.world.boot c.in_ok-turns_on_first-in-Ok.field-0.0 c.in_ok-turns_on_first-in-Ok.field-0.1 c.in_ok-input.ensures.rules e.boot c.in-Ok.ensures.right e.accepted_once e.runs
+pub returns-clause-stop : goal.returns-clause-stop
+returns-clause-stop g c = boot_stop_of g.P.Port.made g.P.Port.faults c.args.ports.now.items c.run_input.new.ports.items (g.F.Files.holds c.args.files.now) (seen c.args.names.now) (g.F.Files.faults c.args.files.now) (g.F.Files.faults c.read_input.new.files) (g.F.Files.asked c.args.files.now) (g.F.Files.asked c.read_input.new.files) c.in_ok-input.input.map c.run_input.result c.in_ok-input.ensures.good c.in_ok-input.ensures.map c.in_ok-input.ensures.asked c.run_input.ensures.stop
