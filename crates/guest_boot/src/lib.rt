@@ -1,6 +1,12 @@
 //! What boot makes of a map.
 #![tactic(auto)]
 
+mod accept;
+mod cut;
+mod fault;
+mod pages;
+mod stages;
 mod world;
 
-pub use world::{BootFault, World, boot};
+pub use fault::BootFault;
+pub use world::{World, boot};

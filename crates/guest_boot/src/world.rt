@@ -7,9 +7,9 @@ ghost use Rattle.event_core.specs.Boot.{BootRight};
 ghost use Rattle.guest_boot.specs.Worlds.{WorldStands};
 ghost use Rattle.guest_boot.specs.Stopped.{BootStopped};
 
+use crate::fault::BootFault;
 use efi_map::GuestMap;
 use event_core::Boot;
-use guest_base::Page;
 use memory_core::Memory;
 use page_module::Port;
 use std::alloc::Global;
@@ -19,14 +19,6 @@ use std::alloc::Global;
 pub struct World {
     pub boot: Boot,
     pub memory: Memory,
-}
-
-/// Why boot didn't come to its end.
-#[derive(Clone, Copy, Debug, PartialEq, Eq)]
-pub enum BootFault {
-    /// The acceptance of an early piece or of a block stopped at this page, whose call for 4 KiB the module failed.
-    Module(Page),
-    NoMemory,
 }
 
 /// Boots a map without a pool. All module calls are made through `port`, which has made none: those of the early pieces, and then of

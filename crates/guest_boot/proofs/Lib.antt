@@ -1,0 +1,4 @@
+pub mod PieceLemmas
+pub mod InTurnLemmas
+pub mod RunLemmas
+pub mod SetRunsLemmas
