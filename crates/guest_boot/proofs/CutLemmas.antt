@@ -1,6 +1,7 @@
 -- The cut of RAM into blocks: the order at a place, the blocks of a range, and the ranges of runs.
-use Rattle.std.proofs.Common.{◌≡◌, ◌≢◌, ℕ, zero, suc, ◌+◌, ◌-◌, ◌^◌, ◌<◌, ◌≤◌, true, false, List, [], ◌∷◌, get_or, refl, sym, ap, ◌∙◌, arith, inl, inr, eqb-true, eq-eqb, ne_eqb, ◌==◌}
+use Rattle.std.proofs.Common.{◌≡◌, ◌≢◌, ℕ, zero, suc, ◌+◌, ◌-◌, ◌^◌, ◌<◌, ◌≤◌, Bool, true, false, Option, None, Some, find, length, List, [], ◌∷◌, get_or, refl, sym, ap, ◌∙◌, arith, inl, inr, eqb-true, eq-eqb, ne_eqb, ◌==◌}
 use Rattle.std.specs.List.{All, flat_map}
+use Rattle.std.specs.Option.{option_map}
 use Rattle.std.proofs.lemmas.Bool.{cases_Bool, cases_lt}
 use Rattle.std.proofs.lemmas.Bool.Decides.{nat_tests}
 use Rattle.std.proofs.lemmas.Nat.{pow_pos}
@@ -8,8 +9,9 @@ use Rattle.std.proofs.lemmas.List.Elements.{All-nil, All-cons, All-append, All-h
 use Rattle.guest_base.specs.declared.memory.Pages.{Pages}
 use Rattle.guest_base.specs.declared.memory.Block.{Block}
 use Rattle.guest_base.specs.declared.memory.PageRun.{PageRun}
+use Rattle.guest_base.specs.declared.memory.PageState.{PageState}
 use Rattle.event_core.specs.Cut.{pages_end, joined, ram_ranges, may_stand, order_at, blocks_from, blocks_of}
-use Rattle.event_core.specs.Runs.{run_end}
+use Rattle.event_core.specs.Runs.{run_end, run_holds, AreMaximalRuns}
 
 -- ---- the order at a place
 
@@ -141,3 +143,30 @@ cut-orders end runs low = blocks-each (λ (b : Block). b.order ≤ 10) end runs 
 
 pub cut-ends : (end : ℕ) (runs : List PageRun) → All (λ (run : PageRun). run_end run ≤ end) runs → All (λ (b : Block). b.first + 2 ^ b.order ≤ end) (flat_map blocks_of (ram_ranges runs))
 cut-ends end runs low = blocks-each (λ (b : Block). b.first + 2 ^ b.order ≤ end) end runs (blocks-ends end) low
+
+-- a list that holds a match isn't searched in vain
+found-at : (test : PageRun → Bool) (runs : List PageRun) (k : ℕ) (d : PageRun) → k < length runs → test (get_or runs k d) ≡ true → find test runs ≢ None
+found-at test [] k d within passes = absurd (omega arith)
+found-at test (run ∷ runs) zero d within passes = λ none. let some : find test (run ∷ runs) ≡ Some run = rw passes refl in cc
+found-at test (run ∷ runs) (suc k) d within passes =
+    elim (cases_Bool (test run)) [
+      | inl here ↦ λ none. let some : find test (run ∷ runs) ≡ Some run = rw here refl in cc
+      | inr other ↦ λ none. found-at test runs k d (omega arith) passes (rw other at none)
+    ]
+
+some-state : (found : Option PageRun) → found ≢ None → option_map (λ (run : PageRun). run.state) found ≢ None
+some-state None some = absurd (some refl)
+some-state (Some run) some = λ none. cc
+
+holds-last : (run : PageRun) → 0 < run.pages.count → run_holds (run_end run - 1) run ≡ true
+holds-last run some = grind (arith, nat_tests)
+
+-- maximal runs of pages below an end lie below it
+pub runs-low : (end : ℕ) (states : ℕ → Option PageState) (runs : List PageRun) → AreMaximalRuns states runs → ((page : ℕ) → states page ≢ None → page < end) → All (λ (run : PageRun). run_end run ≤ end) runs
+runs-low end states runs are low k d within =
+    let run : PageRun = get_or runs k d in
+    let some : 0 < run.pages.count = are.some k d within in
+    let page : ℕ = run_end run - 1 in
+    let held : find (run_holds page) runs ≢ None = found-at (run_holds page) runs k d within (holds-last run some) in
+    let below : page < end = low page (λ none. some-state (find (run_holds page) runs) held (are.each page ∙ none)) in
+    omega (arith, below, some)

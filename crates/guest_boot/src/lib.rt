@@ -2,6 +2,8 @@
 #![tactic(auto)]
 
 mod cut;
+#[cfg(test)]
+mod cut_tests;
 mod world;
 
 pub use world::{BootFault, World, boot};
