@@ -3,6 +3,8 @@
 
 mod accept;
 mod cut;
+#[cfg(test)]
+mod cut_tests;
 mod fault;
 mod pages;
 mod stages;
