@@ -45,7 +45,6 @@ pub leads-stop : {Item : Type 0} (Part : Parts Item) (start made made' : List Mo
 leads-stop Part start made made' all at d page low leads grew =
     leads-stopped Part start made made' all (get_or all at d) (drop (at + 1) all) page (subst (λ rest. LeadsTo Part start all made rest) (at-drop all at d low) leads) grew
 
-
 -- the end of all
 pub leads-end : {Item : Type 0} (Part : Parts Item) (start made : List ModuleCall) (all : List Item) (at : ℕ) → length all ≤ at → LeadsTo Part start all made (drop at all) → Grew start made (λ now. InTurn Part start all now None)
 leads-end Part start made all at past leads =
@@ -84,3 +83,8 @@ pub turn-same : {Item : Type 0} (Part Same : Parts Item) (done : List ModuleCall
 turn-same Part Same done [] calls stop same turn = turn
 turn-same Part Same done (x ∷ xs) calls stop same (inl (page, part, is)) = inl (page, same done x calls (Some page) part, is)
 turn-same Part Same done (x ∷ xs) calls stop same (inr (now, later, is, part, rest)) = inr (now, later, is, same done x now None part, turn-same Part Same (done ++ now) xs later stop same rest)
+
+pub turn-unmap : {Item Other : Type 0} (Part : Parts Other) (f : Item → Other) (done : List ModuleCall) (xs : List Item) (calls : List ModuleCall) (stop : Option Page) → InTurn Part done (map f xs) calls stop → InTurn (λ before x now end. Part before (f x) now end) done xs calls stop
+turn-unmap Part f done [] calls stop turn = turn
+turn-unmap Part f done (x ∷ xs) calls stop (inl stopped) = inl stopped
+turn-unmap Part f done (x ∷ xs) calls stop (inr (now, later, is, part, rest)) = inr (now, later, is, part, turn-unmap Part f (done ++ now) xs later stop rest)

@@ -3,3 +3,7 @@ pub mod InTurnLemmas
 pub mod RunLemmas
 pub mod SetRunsLemmas
 pub mod CutLemmas
+pub mod EarlyLemmas
+pub mod StartLemmas
+pub mod StageLemmas
+pub mod BootLemmas

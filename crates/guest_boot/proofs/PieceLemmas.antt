@@ -44,6 +44,9 @@ pub both-ok : {T E P Q R : Type 0} (r : Result T E) → OnOk r P → OnOk r Q �
 both-ok (Ok x) p q f = f p q
 both-ok (Err e) p q f = tt
 
+pub err-same : {T E : Type 0} (r : Result T E) (a b : E) → r ≡ Err a → r ≡ Err b → a ≡ b
+err-same r a b is same = let both : Err a ≡ Err b = sym is ∙ same in cc
+
 -- what is done with the states of pages
 pub record OnePiece (boot : Boot) (pages : Pages) (now : List ModuleCall) (table next old new : ℕ → Option PageState) : Type 0 where
   pub taken : (page : ℕ) → old page ≡ cond (in_range pages.first pages.count page) (table page) None

@@ -123,6 +123,6 @@ runs-are boot done bits start len after =
     ∙ ap (λ (t : ℕ → Bool). runs_in t (guarded_units boot start len)) (fun_ext after.set)
     ∙ the-runs (guarded_units boot start len)
   where
-  the-runs : (units : Option Units) → runs_in (bit_after boot done) units ≡ set_runs boot done units
-  the-runs None = refl
-  the-runs (Some units) = refl
+    the-runs : (units : Option Units) → runs_in (bit_after boot done) units ≡ set_runs boot done units
+    the-runs None = refl
+    the-runs (Some units) = refl

@@ -69,7 +69,11 @@ fn work<P: Port>(
 }
 
 /// Adds the calls of an acceptance to those made before, unless it stopped.
-fn keep_calls(kept: &mut Vec<ModuleCall>, calls: &[ModuleCall], end: RunEnd) -> Result<(), BootFault>
+fn keep_calls(
+    kept: &mut Vec<ModuleCall>,
+    calls: &[ModuleCall],
+    end: RunEnd,
+) -> Result<(), BootFault>
     ensures calls { OnOk result (kept.new.items ≡ kept.old.items ++ calls.now) }
     ensures whole { OnOk result (stopped_at end ≡ None) }
     ensures stopped { (page : PageValue) → result ≡ Err (BootFault.Module page) → stopped_at end ≡ Some page }

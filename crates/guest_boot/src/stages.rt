@@ -128,7 +128,14 @@ fn accept_block<P: Port>(
         return Ok(());
     }
     let pages = block.pages();
-    accept_range(alloc, boot, kept, port, PAGE_BYTES * pages.first, PAGE_BYTES * pages.count)
+    accept_range(
+        alloc,
+        boot,
+        kept,
+        port,
+        PAGE_BYTES * pages.first,
+        PAGE_BYTES * pages.count,
+    )
 }
 
 /// Accepts the blocks below 4 MiB, one after another.

@@ -27,12 +27,16 @@ returns-clause-stands g c =
 pub returns-clause-made : goal.returns-clause-made
 returns-clause-made g c =
     let back : PutBack c.in_ok-span.field-0.span c.work.new.table c.put.new.self = record { states = c.put.ensures.states; out = c.put.ensures.out } in
-    both-ok c.keep_calls.result c.keep_calls.ensures.whole c.keep_calls.ensures.whole (λ whole again.
-    (c.in_ok-span.field-0.calls, c.in_ok-span.ensures.made,
-    piece-accepts c.args.boot.now (g.P.Port.made c.args.port.now) c.in_ok-span.field-0.calls c.args.kept.now c.work.new.table c.put.new.self c.args.pages c.in_ok-span.field-0.span None c.requires.stands c.in_ok-span.ensures.accepted back (sym (c.in_ok-span.ensures.end ∙ whole))))
+    both-ok c.keep_calls.result c.keep_calls.ensures.whole c.keep_calls.ensures.whole (λ whole again. (
+      c.in_ok-span.field-0.calls,
+      c.in_ok-span.ensures.made,
+      piece-accepts c.args.boot.now (g.P.Port.made c.args.port.now) c.in_ok-span.field-0.calls c.args.kept.now c.work.new.table c.put.new.self c.args.pages c.in_ok-span.field-0.span None c.requires.stands c.in_ok-span.ensures.accepted back (sym (c.in_ok-span.ensures.end ∙ whole)),
+    ))
 
 pub returns-clause-stopped : goal.returns-clause-stopped
 returns-clause-stopped g c page is =
-    let back : PutBack c.in_ok-span.field-0.span c.work.new.table c.put.new.self = record { states = c.put.ensures.states; out = c.put.ensures.out } in
-    (c.in_ok-span.field-0.calls, c.in_ok-span.ensures.made,
-    piece-accepts c.args.boot.now (g.P.Port.made c.args.port.now) c.in_ok-span.field-0.calls c.args.kept.now c.work.new.table c.put.new.self c.args.pages c.in_ok-span.field-0.span (Some page) c.requires.stands c.in_ok-span.ensures.accepted back (sym (c.in_ok-span.ensures.end ∙ c.keep_calls.ensures.stopped page is)))
+    let back : PutBack c.in_ok-span.field-0.span c.work.new.table c.put.new.self = record { states = c.put.ensures.states; out = c.put.ensures.out } in (
+      c.in_ok-span.field-0.calls,
+      c.in_ok-span.ensures.made,
+      piece-accepts c.args.boot.now (g.P.Port.made c.args.port.now) c.in_ok-span.field-0.calls c.args.kept.now c.work.new.table c.put.new.self c.args.pages c.in_ok-span.field-0.span (Some page) c.requires.stands c.in_ok-span.ensures.accepted back (sym (c.in_ok-span.ensures.end ∙ c.keep_calls.ensures.stopped page is)),
+    )

@@ -40,15 +40,19 @@ pub returns-clause-made : goal.returns-clause-made
 returns-clause-made g c =
     let of : RunOf c.args.boot.now (g.P.Port.made c.args.port.now) c.args.kept.now c.args.run c.run_pages-pages.result = record { booted = c.requires.booted; stands = c.requires.stands; some = c.requires.some; set = c.requires.set; pages_are = c.run_pages-pages.ensures } in
     let back : PutBack c.in_ok-span.field-0.span c.work.new.table c.put.new.self = record { states = c.put.ensures.states; out = c.put.ensures.out } in
-    both-ok c.keep_calls.result c.keep_calls.ensures.whole c.keep_calls.ensures.whole (λ whole again.
-    (c.in_ok-span.field-0.calls, c.in_ok-span.ensures.made,
-    run-made c.args.boot.now (g.P.Port.made c.args.port.now) c.in_ok-span.field-0.calls c.args.kept.now c.work.new.table c.put.new.self c.clear_run.new.bits c.args.run c.run_pages-pages.result c.in_ok-span.field-0.span c.clear_run.result None
-    (record { of = of; out = c.in_ok-span.ensures.accepted; back = back; cleared_in = c.clear_run.ensures.cleared }) (sym (c.in_ok-span.ensures.end ∙ whole))))
+    both-ok c.keep_calls.result c.keep_calls.ensures.whole c.keep_calls.ensures.whole (λ whole again. (
+      c.in_ok-span.field-0.calls,
+      c.in_ok-span.ensures.made,
+      run-made c.args.boot.now (g.P.Port.made c.args.port.now) c.in_ok-span.field-0.calls c.args.kept.now c.work.new.table c.put.new.self c.clear_run.new.bits c.args.run c.run_pages-pages.result c.in_ok-span.field-0.span c.clear_run.result None
+          (record { of = of; out = c.in_ok-span.ensures.accepted; back = back; cleared_in = c.clear_run.ensures.cleared }) (sym (c.in_ok-span.ensures.end ∙ whole)),
+    ))
 
 pub returns-clause-stopped : goal.returns-clause-stopped
 returns-clause-stopped g c page is =
     let of : RunOf c.args.boot.now (g.P.Port.made c.args.port.now) c.args.kept.now c.args.run c.run_pages-pages.result = record { booted = c.requires.booted; stands = c.requires.stands; some = c.requires.some; set = c.requires.set; pages_are = c.run_pages-pages.ensures } in
-    let back : PutBack c.in_ok-span.field-0.span c.work.new.table c.put.new.self = record { states = c.put.ensures.states; out = c.put.ensures.out } in
-    (c.in_ok-span.field-0.calls, c.in_ok-span.ensures.made,
-    run-made c.args.boot.now (g.P.Port.made c.args.port.now) c.in_ok-span.field-0.calls c.args.kept.now c.work.new.table c.put.new.self c.clear_run.new.bits c.args.run c.run_pages-pages.result c.in_ok-span.field-0.span c.clear_run.result (Some page)
-    (record { of = of; out = c.in_ok-span.ensures.accepted; back = back; cleared_in = c.clear_run.ensures.cleared }) (sym (c.in_ok-span.ensures.end ∙ c.keep_calls.ensures.stopped page is)))
+    let back : PutBack c.in_ok-span.field-0.span c.work.new.table c.put.new.self = record { states = c.put.ensures.states; out = c.put.ensures.out } in (
+      c.in_ok-span.field-0.calls,
+      c.in_ok-span.ensures.made,
+      run-made c.args.boot.now (g.P.Port.made c.args.port.now) c.in_ok-span.field-0.calls c.args.kept.now c.work.new.table c.put.new.self c.clear_run.new.bits c.args.run c.run_pages-pages.result c.in_ok-span.field-0.span c.clear_run.result (Some page)
+          (record { of = of; out = c.in_ok-span.ensures.accepted; back = back; cleared_in = c.clear_run.ensures.cleared }) (sym (c.in_ok-span.ensures.end ∙ c.keep_calls.ensures.stopped page is)),
+    )
