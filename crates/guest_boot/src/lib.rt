@@ -1,6 +1,14 @@
 //! What boot makes of a map.
 #![tactic(auto)]
 
+mod accept;
+mod cut;
+#[cfg(test)]
+mod cut_tests;
+mod fault;
+mod pages;
+mod stages;
 mod world;
 
-pub use world::{BootFault, World, boot};
+pub use fault::BootFault;
+pub use world::{World, boot};

@@ -1,32 +1,40 @@
 //! Boot without a pool.
-ghost use Rattle.std.specs.Prelude.{◌≡◌, ◌≤◌, [], IfOk, IfErr};
+ghost use Rattle.std.specs.Prelude.{◌≡◌, ◌≤◌, ◌+◌, ◌^◌, [], None, Some, Err, List, All, IfOk, OnOk, map};
 ghost use Rattle.guest_base.specs.Counts.{Rose};
+ghost use Rattle.guest_base.specs.declared.memory.Block.{Block as BlockValue};
 ghost use Rattle.guest_base.specs.declared.memory.Page.{Page as PageValue};
+ghost use Rattle.guest_base.specs.declared.memory.Pages.{Pages as PagesValue};
+ghost use Rattle.guest_base.specs.declared.memory.PageRun.{PageRun as PageRunValue};
 ghost use Rattle.event_core.specs.Map.{MapRules};
-ghost use Rattle.event_core.specs.Boot.{BootRight};
+ghost use Rattle.event_core.specs.Boot.{BootRight, InTurn, StagePart, stages_of};
+ghost use Rattle.event_core.specs.Cut.{cut};
+ghost use Rattle.memory_core.specs.Booted.{IsBooted};
+ghost use Rattle.unaccepted_bitmap.specs.StubMap.{pending_run};
+ghost use Rattle.guest_boot.specs.Booting.{StandsAfter, IsEarly};
+ghost use Rattle.guest_boot.specs.Starting.{IsFirstBoot};
 ghost use Rattle.guest_boot.specs.Worlds.{WorldStands};
 ghost use Rattle.guest_boot.specs.Stopped.{BootStopped};
 
+use crate::accept::Kept;
+use crate::cut::cut_blocks;
+use crate::fault::BootFault;
+use crate::stages::{accept_blocks, accept_early};
 use efi_map::GuestMap;
-use event_core::Boot;
-use guest_base::Page;
+use event_core::{Boot, Hosts, Runs};
+use guest_base::{Block, Bytes, Items, PageRun};
 use memory_core::Memory;
-use page_module::Port;
-use std::alloc::Global;
+use page_module::{PageTable, Port};
+use std::alloc::{AllocError, Global};
+use unaccepted_bitmap::{Bitmap, early};
+
+/// The bytes of a unit where no table is handed in: 2 MiB.
+const UNIT_BYTES: u64 = 2_097_152;
 
 /// A guest as boot leaves it.
 #[derive(Drop)]
 pub struct World {
     pub boot: Boot,
     pub memory: Memory,
-}
-
-/// Why boot didn't come to its end.
-#[derive(Clone, Copy, Debug, PartialEq, Eq)]
-pub enum BootFault {
-    /// The acceptance of an early piece or of a block stopped at this page, whose call for 4 KiB the module failed.
-    Module(Page),
-    NoMemory,
 }
 
 /// Boots a map without a pool. All module calls are made through `port`, which has made none: those of the early pieces, and then of
@@ -51,5 +59,84 @@ pub fn boot<P: Port>(
     ensures failed { (page : PageValue) → result ≡ Err (BootFault.Module page) → Rose (P.faults port.old) (P.faults port.new) }
     ensures faults { P.faults port.old ≤ P.faults port.new }
 {
-    Err(BootFault::NoMemory)
+    let ram = map.ram(alloc)?;
+    let bits = Bitmap::of_map(alloc, map)?;
+    let pieces = early(alloc, map)?;
+    let blocks = cut_blocks(alloc, &ram)?;
+    let table = PageTable::new(alloc, &ram)?;
+    let mut boot = first_boot(alloc, &map.hosts, ram, &bits, areas, cpus)?;
+    let mut kept = Kept {
+        table,
+        bits,
+        calls: Vec::new(alloc),
+    };
+    accept_stages(
+        alloc,
+        &boot,
+        &mut kept,
+        port,
+        pieces.as_slice(),
+        blocks.as_slice(),
+    )?;
+    let Kept { table, bits, calls } = kept;
+    boot.calls = Items::from_vec(calls);
+    let memory = Memory::new(alloc, &boot, table, bits)?;
+    Ok(World { boot, memory })
+}
+
+/// What is recorded of a boot before its first call, where these are the bits of the unaccepted units.
+fn first_boot(
+    alloc: Global,
+    hosts: &Hosts,
+    ram: Runs,
+    bits: &Option<Bitmap>,
+    areas: u32,
+    cpus: u32,
+) -> Result<Boot, AllocError>
+    ensures { IfOk result (λ boot. IsFirstBoot hosts.now areas cpus ram bits.now boot) }
+{
+    let (base, unit, bits) = match bits {
+        Some(bits) => (bits.base(), bits.unit(), bits.copy_bytes(alloc)?),
+        None => (0, UNIT_BYTES, Bytes::new(alloc)),
+    };
+    Ok(Boot {
+        ram,
+        hosts: Items::from_vec(Vec::from_slice(alloc, hosts.as_slice())?),
+        base,
+        unit,
+        bits,
+        cpus,
+        slots: 0,
+        areas,
+        pool: None,
+        calls: Items::new(alloc),
+    })
+}
+
+/// Accepts the early pieces, and then the blocks below 4 MiB.
+fn accept_stages<P: Port>(
+    alloc: Global,
+    boot: &Boot,
+    kept: &mut Kept,
+    port: &mut P,
+    pieces: &[PageRun],
+    blocks: &[Block],
+) -> Result<(), BootFault>
+    requires unmade { P.made port.old ≡ [] }
+    requires booted { IsBooted boot.now }
+    requires stands { StandsAfter boot.now [] kept.old }
+    requires early { All (λ (piece : PageRunValue). IsEarly boot.now piece.pages) pieces.now }
+    requires no_pool { boot.now.pool ≡ None }
+    requires blocks { blocks.now ≡ cut boot.now }
+    requires orders { All (λ (b : BlockValue). b.order ≤ 10) blocks.now }
+    requires ends { All (λ (b : BlockValue). b.first + 2 ^ b.order ≤ 2 ^ 28) blocks.now }
+    ensures stands { OnOk result (StandsAfter boot.now (P.made port.new) kept.new) }
+    ensures made { OnOk result ((early : List PagesValue) → pieces.now ≡ map pending_run early → InTurn (StagePart boot.now) [] (stages_of boot.now early) (P.made port.new) None) }
+    ensures stopped { (page : PageValue) → result ≡ Err (BootFault.Module page)
+        → (early : List PagesValue) → pieces.now ≡ map pending_run early → InTurn (StagePart boot.now) [] (stages_of boot.now early) (P.made port.new) (Some page) }
+    ensures failed { (page : PageValue) → result ≡ Err (BootFault.Module page) → Rose (P.faults port.old) (P.faults port.new) }
+    ensures faults { P.faults port.old ≤ P.faults port.new }
+{
+    accept_early(alloc, boot, kept, port, pieces)?;
+    accept_blocks(alloc, boot, kept, port, blocks)
 }
