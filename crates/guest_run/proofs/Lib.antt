@@ -1,3 +1,4 @@
+pub mod PortsLemmas
 pub mod OneProcessor
 pub mod AtLemmas
 pub mod SpanLemmas
@@ -7,7 +8,6 @@ pub mod RunLemmas
 pub mod PrintLemmas
 pub mod TextLemmas
 pub mod WithinLemmas
-pub mod PortsLemmas
 pub mod ScriptLemmas
 pub mod InputLemmas
 pub mod EndLemmas

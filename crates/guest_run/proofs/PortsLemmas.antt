@@ -29,7 +29,7 @@ the_one : (boot : Boot) (script : List Command) (cpu : ℕ) (own there : List Mo
 the_one boot script zero own there calls s h = refl
 the_one boot script (suc cpu) own there calls s h = let no : None ≡ Some s = h in cc
 
-all_mine : (boot : Boot) (script : List Command) (history : List Moved) (entries : List Entry) → LegalAfter boot (script ∷ []) history entries → AllByRecursion (λ (e : Entry). e.cpu.0 ≡ 0) entries
+pub all_mine : (boot : Boot) (script : List Command) (history : List Moved) (entries : List Entry) → LegalAfter boot (script ∷ []) history entries → AllByRecursion (λ (e : Entry). e.cpu.0 ≡ 0) entries
 all_mine boot script history [] legal = tt
 all_mine boot script history (entry ∷ entries) legal =
     (the_one boot script entry.cpu.0 (made_by entry.cpu.0 history) (at_place entry.place history) (calls_in entry.event) (record { event = entry.event; reply = entry.reply }) legal.0.over.step, all_mine boot script (history ++ with_bytes boot (script ∷ []) history entry ∷ []) entries legal.2)

@@ -41,7 +41,7 @@ replies_are boot entries = ap (λ (f : ℕ → List Reply). map f (numbers_from 
 abbrev put_text : Recorded → List Entry → List PageRun → List ℕ
 put_text r entries put = run_text (replies_of_each r.boot.cpus entries) put None
 
-printed_text : (r : Recorded) (entries : List Entry) (runs put : List PageRun) → entries ≡ r.entries → put ≡ runs → AreMaximalRuns (page_state r.boot (calls_of r.boot r.entries)) runs → Printed r.boot r.entries None (put_text r entries put)
+printed_text : (r : Recorded) (entries : List Entry) (runs put : List PageRun) → entries ≡ r.entries → put ≡ runs → AreMaximalRuns (page_state r.boot (calls_of r.boot r.entries)) runs → Printed r.boot r.entries false (put_text r entries put)
 printed_text r entries runs put same-entries same maximal = record {
   runs = runs;
   maximal = maximal;

@@ -68,8 +68,8 @@ runs_within map hosts slots areas cpus boot calls runs rules right sound maximal
     ]
 
 -- the runs that a run answers
-pub within_of : {E : Type 0} (map : List Descriptor) (hosts : List HostRun) (boot : Boot) (result : Result (Recorded × List PageRun) E) → MapRules map hosts → BootRight map hosts 0 1 1 boot → IfOk result (λ r. r.0.boot ≡ boot) → IfOk result (λ r. AcceptedOnce r.0.boot r.0.entries) → IfOk result (λ r. AreMaximalRuns (page_state r.0.boot (calls_of r.0.boot r.0.entries)) r.1) → IfOk result (λ r. EndInMemory r.1)
-within_of map hosts boot (Ok r) rules right is once maximal =
-    let B : Boot → Type 0 = BootRight map hosts 0 1 1 in
-    runs_within map hosts 0 1 1 r.0.boot (calls_of r.0.boot r.0.entries) r.1 rules (subst B (sym is) right) once.sound maximal
-within_of map hosts boot (Err e) rules right is once maximal = tt
+pub within_of : {E : Type 0} (map : List Descriptor) (hosts : List HostRun) (slots areas : ℕ) (boot : Boot) (result : Result (Recorded × List PageRun) E) → MapRules map hosts → BootRight map hosts slots areas 1 boot → IfOk result (λ r. r.0.boot ≡ boot) → IfOk result (λ r. AcceptedOnce r.0.boot r.0.entries) → IfOk result (λ r. AreMaximalRuns (page_state r.0.boot (calls_of r.0.boot r.0.entries)) r.1) → IfOk result (λ r. EndInMemory r.1)
+within_of map hosts slots areas boot (Ok r) rules right is once maximal =
+    let B : Boot → Type 0 = BootRight map hosts slots areas 1 in
+    runs_within map hosts slots areas 1 r.0.boot (calls_of r.0.boot r.0.entries) r.1 rules (subst B (sym is) right) once.sound maximal
+within_of map hosts slots areas boot (Err e) rules right is once maximal = tt

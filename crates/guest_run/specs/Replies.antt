@@ -25,10 +25,6 @@ replies_of_each cpus entries = map (λ cpu. replies_of cpu entries) (numbers_fro
 abbrev pub calls_by : ℕ → List Entry → List ModuleCall
 calls_by cpu entries = flat_map (λ (e : Entry). calls_in e.event) (filter (λ (e : Entry). e.cpu.0 == cpu) entries)
 
--- the first port has made boot's calls, and the others none
-abbrev pub PortsBooted : {P : Type 0} → (P → List ModuleCall) → List P → List ModuleCall → Type 0
-PortsBooted {P} made ports calls = (cpu : ℕ) (port : P) → slice_get ports cpu ≡ Some port → made port ≡ (if cpu == 0 then calls else [])
-
 -- the calls of the processor's port: first boot's, where it is the first processor, and then those of its entries
 abbrev pub port_calls : Recorded → ℕ → List ModuleCall
 port_calls r cpu = (if cpu == 0 then r.boot.calls else []) ++ calls_by cpu r.entries

@@ -1,9 +1,11 @@
 //! The run of a guest.
 #![tactic(auto)]
 
+mod answers;
 mod input;
 mod one;
 mod print;
+mod processor;
 mod program;
 mod room;
 mod run;
@@ -11,6 +13,7 @@ mod spans;
 mod stop;
 mod words;
 
+pub use one::turns;
 pub use program::{Ended, plain, top};
 
 #[cfg(test)]
