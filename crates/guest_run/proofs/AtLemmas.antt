@@ -102,10 +102,12 @@ pub at-claim : (boot : Boot) (script : List Command) (entries memory : List Entr
 at-claim boot script entries memory number start len units run at now fine is_units is_run =
     let here : slice_get script (replied (with_moved boot (script ∷ []) entries)) ≡ Some (command.Accept start len) = ap (slice_get script) at.present ∙ now in
     let free : claim_of boot (memory_of boot (script ∷ []) entries) 0 ≡ None = ap (λ m. claim_of boot m 0) (sym at.there) ∙ at.claims in
-    at-memory boot script entries memory number None (opened None units run (calls_of boot memory)) (claim_made units run) at refl
-    (claim-next boot script entries start len at.cpus here fine free
-    ∙ ap (λ m. Some (claim_made (guarded_units boot start len) (run_of_claim boot m (guarded_units boot start len)))) (sym at.there)
-    ∙ ap (λ u. Some (claim_made u (run_of_claim boot memory u))) (sym is_units) ∙ ap (λ r. Some (claim_made units r)) (sym is_run), tt)
+    at-memory boot script entries memory number None (opened None units run (calls_of boot memory)) (claim_made units run) at refl (
+      claim-next boot script entries start len at.cpus here fine free
+          ∙ ap (λ m. Some (claim_made (guarded_units boot start len) (run_of_claim boot m (guarded_units boot start len)))) (sym at.there)
+          ∙ ap (λ u. Some (claim_made u (run_of_claim boot memory u))) (sym is_units) ∙ ap (λ r. Some (claim_made units r)) (sym is_run),
+      tt,
+    )
     refl
 
 -- a report
@@ -118,7 +120,9 @@ at-report boot script entries memory number start len claim calls cleared at now
     let here : slice_get script (replied (with_moved boot (script ∷ []) entries)) ≡ Some (command.Accept start len) = ap (slice_get script) at.present ∙ now in
     let has : claim_of boot (memory_of boot (script ∷ []) entries) 0 ≡ Some claim = ap (λ m. claim_of boot m 0) (sym at.there) ∙ at.claims in
     let A : List Entry → Type 0 = λ m. AcceptsUnits boot (calls_of boot m) claim.run calls in
-    at-memory boot script entries memory number (Some claim) (goes_on boot (calls_of boot memory) calls (Some claim) (stop_of calls) (next_run boot claim (stop_of calls))) (report_made boot claim calls cleared) at refl
-    (report-next boot script entries start len claim calls here fine has
-    ∙ ap (λ m. Some (report_made boot claim calls (cleared_by boot m claim calls))) (sym at.there) ∙ ap (λ n. Some (report_made boot claim calls n)) (sym is), subst A at.there accepts)
+    at-memory boot script entries memory number (Some claim) (goes_on boot (calls_of boot memory) calls (Some claim) (stop_of calls) (next_run boot claim (stop_of calls))) (report_made boot claim calls cleared) at refl (
+      report-next boot script entries start len claim calls here fine has
+          ∙ ap (λ m. Some (report_made boot claim calls (cleared_by boot m claim calls))) (sym at.there) ∙ ap (λ n. Some (report_made boot claim calls n)) (sym is),
+      subst A at.there accepts,
+    )
     refl

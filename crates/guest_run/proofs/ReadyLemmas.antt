@@ -24,6 +24,7 @@ use Rattle.event_core.specs.Claims.{Claimed, opened, goes_on, claim_of, in_the_w
 use Rattle.event_core.specs.MemoryRows.{run_of_claim, next_run, cleared_by, report_event, some_unaccepted, AcceptsUnits}
 use Rattle.event_core.specs.Next.{Step, claim_reply, report_reply}
 use Rattle.event_core.specs.Legal.{place_of}
+use Rattle.event_core.proofs.StandingLemmas.{calls_of-push}
 use Rattle.page_module.specs.Spans.{Taken}
 use Rattle.accept_sizes.specs.Accepts.{Accepts}
 use Rattle.memory_core.specs.Booted.{IsBooted}
@@ -37,7 +38,7 @@ use Rattle.memory_core.specs.declared.memory.Reported.TheVariants.{Next, Closed,
 use Rattle.memory_core.proofs.UnitsLemmas.{first_run-facts, run-low, IsRunIn}
 use Rattle.guest_run.specs.declared.processor.Processor.{Processor}
 use Rattle.guest_run.specs.Running.{At, made_entry}
-use Rattle.guest_run.specs.Ready.{Ready, Claiming, EndsOr, next_turn}
+use Rattle.guest_run.specs.Ready.{Ready, Claiming, EndsOr, calls_by_now, next_turn}
 use Rattle.guest_run.specs.Answered.{begun_with, span_in, reply_in, IsRunOf}
 use Rattle.guest_run.proofs.OneProcessor.{last-low, clear-way}
 use Rattle.guest_run.proofs.AtLemmas.{at-refused, at-query, at-claim, at-report, query_step, claim_made, report_made, bare_made, number_after}
@@ -330,6 +331,11 @@ report-added p q number stamp memory e r reported next is is_reply is_next goes 
     let R : Option Reply → Type 0 = λ x. EndsOr (with_entry p memory stamp number place.Memory e x) number next in
     let S : Option Taken → Type 0 = λ o. EndsOr (with_entry p memory stamp number place.Memory e (reply_in reported)) number o in
     subst P (sym is) (subst R (sym is_reply) (subst S (sym is_next) goes))
+
+-- a report's calls are made after those before it
+pub calls-reported : (p q : Processor) (number stamp : ℕ) (memory : MemoryValue) (turn turned : Turn) (e : Event) (r : Option Reply) (claim : Claimed) (calls : List ModuleCall) → q ≡ with_entry p memory stamp number place.Memory e r → Appends p.memory memory turn turned (report_event p.memory.boot claim calls) → calls_by_now q ≡ calls_by_now p ++ calls
+calls-reported p q number stamp memory turn turned e r claim calls is appends =
+    ap calls_by_now is ∙ ap (calls_of p.boot) appends.entries ∙ calls_of-push p.boot p.memory.entries (bare_entry turn (last_stamp p.memory.entries) (report_event p.memory.boot claim calls))
 
 -- the claim that is open, in the memory's words
 pub claim-has : (p : Processor) (number : ℕ) (span : Taken) (turn : Turn) (c : Claiming p number span) → turn ≡ next_turn p number → claim_of p.memory.boot p.memory.entries turn.cpu.0 ≡ Some c.claim

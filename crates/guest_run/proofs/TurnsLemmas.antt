@@ -220,4 +220,3 @@ maximal-of states table runs maximal same = record {
   some = some-of runs 0 maximal.rising;
   rise = pairs-of runs 0 maximal.rising maximal.differing;
 }
-

@@ -25,7 +25,8 @@ use guest_boot::World;
 use page_module::Port;
 use std::alloc::{AllocError, Global};
 
-/// Runs the script of the one processor of a world, on its port, by which boot made its calls, and tells the final runs of pages.
+/// Runs the script of the one processor of a world on its port, by which boot made its calls, and tells the final runs of pages.
+/// An error comes for want of memory alone.
 pub fn turns<P: Port>(
     alloc: Global,
     world: World,

@@ -28,7 +28,7 @@ pub(crate) struct Processor {
 impl Processor {
     ghost use Rattle.guest_run.specs.Ready.{Ready, Claiming, EndsOr, calls_by_now, next_turn};
 
-    /// The next step of a command. The clock is the stamp of the last entry, as the entries of one processor are numbered from 1.
+    /// The next step of a command. The clock is the stamp of the last entry: the entries of the only processor are numbered from 1.
     fn turn(&self, number: u32) -> Turn
         ensures turn { result ≡ next_turn self.now number }
         ensures clock { result.clock < 2 ^ 64 }
@@ -54,14 +54,15 @@ impl Processor {
               ++ record { stamp = stamp; cpu = record { 0 = 0 }; cmd = number; place = place; event = event; reply = reply } ∷ [];
         }) }
     {
-        self.entries.try_push(Entry {
+        let entry = Entry {
             stamp,
             cpu: CpuNo(0),
             cmd: number,
             place,
             event,
             reply,
-        })?;
+        };
+        self.entries.try_push(entry)?;
         Ok(())
     }
 

@@ -2,16 +2,12 @@ use Rattle.std.proofs.Common.{◌≡◌, ◌++◌, ◌<◌, Option, sym, ◌∙�
 use Rattle.std.specs.Prelude.{IfSome}
 use Rattle.event_core.specs.declared.entry.Turn.{Turn}
 use Rattle.event_core.specs.declared.event.Event.TheVariants as event
-use Rattle.event_core.specs.Calls.{calls_of}
 use Rattle.event_core.specs.MemoryRows.{report_event}
-use Rattle.event_core.proofs.StandingLemmas.{calls_of-push}
 use Rattle.page_module.specs.Spans.{Taken}
 use Rattle.memory_core.specs.Answers.{ReportedBy}
-use Rattle.memory_core.specs.Steps.{Appends, bare_entry, last_stamp, pages_of}
-use Rattle.guest_run.specs.declared.processor.Processor.{Processor}
+use Rattle.memory_core.specs.Steps.{Appends, pages_of}
 use Rattle.guest_run.specs.Answered.{IsRunOf}
-use Rattle.guest_run.specs.Ready.{calls_by_now}
-use Rattle.guest_run.proofs.ReadyLemmas.{claiming-report, report-added, report-whole, report-further, claim-has}
+use Rattle.guest_run.proofs.ReadyLemmas.{claiming-report, report-added, report-whole, report-further, calls-reported, claim-has}
 use Rattle.guest_run.proofs.processor.Processor.report.Goals as goal
 
 pub run_of-requires-clause-whole : goal.run_of-requires-clause-whole
@@ -59,7 +55,5 @@ returns-clause-made g c was =
     let calls = c.in_ok-calls.calls in
     let has = claim-has p c.args.number c.args.span c.turn-turn.result claiming c.turn-turn.ensures.turn in
     let appends = c.report.ensures.appends claiming.claim has in
-    let after : calls_of p.boot c.report.new.self.entries ≡ calls_of p.boot p.memory.entries ++ calls =
-    ap (calls_of p.boot) appends.entries ∙ calls_of-push p.boot p.memory.entries (bare_entry c.turn-turn.result (last_stamp p.memory.entries) (report_event p.memory.boot claiming.claim calls)) in
-    let M : Processor → Type 0 = λ q. g.P.Port.made c.accept_span.new.port ≡ calls_by_now q in
-    subst M (sym c.in_ok-add.ensures) (c.in_ok-calls.ensures.made ∙ ap (λ l. l ++ calls) was ∙ sym after)
+    let after = calls-reported p c.add.new.self c.args.number c.report.new.turn.clock c.report.new.self c.turn-turn.result c.report.new.turn (event.Report c.units_of-run.result c.in_ok-copy.copy c.stopped_page.result c.run_of.result) c.after_report-next.result.1 claiming.claim calls c.in_ok-add.ensures appends in
+    c.in_ok-calls.ensures.made ∙ ap (λ l. l ++ calls) was ∙ sym after
