@@ -1,4 +1,4 @@
-use Rattle.std.proofs.Common.{◌≡◌, ℕ, ◌+◌, ◌<◌, ◌⊎◌, List, [], ◌∷◌, ◌++◌, Option, None, Some, refl, sym, ◌∙◌, ap, subst, inl, inr, arith, take}
+use Rattle.std.proofs.Common.{◌≡◌, ℕ, ◌<◌, ◌⊎◌, List, ◌++◌, Option, None, Some, refl, sym, ◌∙◌, ap, subst, inl, inr, arith}
 use Rattle.std.specs.Prelude.{Result, Ok, Err, IfErr}
 use Rattle.guest_base.specs.Counts.{Rose}
 use Rattle.event_core.specs.declared.module_call.ModuleCall.{ModuleCall}
@@ -11,7 +11,7 @@ use Rattle.guest_run.specs.Causes.{cause_of, IsGood, IsToldGood, IsRefused, IsTo
 use Rattle.guest_run.specs.Endings.{names_to, first_faults, AreGood, AreToldGood, AsksFront, BootStops, IsMapOf, Put, PutFront, RefusesFirstOf, SaysRefused, SaysNotRead, SaysBootStopped}
 use Rattle.guest_run.specs.Ends.{IsKnown}
 use Rattle.guest_run.specs.Stopping.{BootFails, EndsWith, StopEnds, Stopped}
-use Rattle.guest_run.specs.Stops.{name_of, refused_line, not_read_line, boot_line, stop_line, status_of}
+use Rattle.guest_run.specs.Stops.{name_of, refused_line, boot_line, stop_line, status_of}
 use Rattle.guest_run.specs.Words.{Named}
 use Rattle.guest_run.proofs.InputLemmas.{front_to}
 use Rattle.efi_map.specs.declared.map.GuestMap.{GuestMap}
@@ -143,7 +143,7 @@ first_refused_of made faults ports_before ports_after holds named faults_before 
 pub complete_of : {P : Type 0} (made : P → List ModuleCall) (faults : P → ℕ) (ports_before ports_after : List P) (holds : List ℕ → Option (List ℕ)) (named : Named) (faults_before faults_after : ℕ) (asked_before asked_after : List (List ℕ)) (before after : Option (List ℕ)) (sink_before sink_after : ℕ) (stop : Stop) (ended : ℕ) → Stopped holds named faults_before faults_after asked_before asked_after (BootStops made faults ports_before ports_after holds named) stop → StopEnds before after sink_before sink_after named stop ended → AreToldGood holds named → (Rose faults_before faults_after → ⊥) → (Rose (first_faults faults ports_before) (first_faults faults ports_after) → ⊥) → (ended ≡ 0) ⊎ (ended ≡ 6)
 complete_of made faults ports_before ports_after holds named faults_before faults_after asked_before asked_after before after sink_before sink_after (Refused file cause) ended stopped ends good kept port = told_good holds named file cause stopped.0 (good file)
 complete_of made faults ports_before ports_after holds named faults_before faults_after asked_before asked_after before after sink_before sink_after (NotRead file) ended stopped ends good kept port = absurd (kept stopped.0)
-complete_of made faults ports_before ports_after holds named faults_before faults_after asked_before asked_after before after sink_before sink_after Module ended stopped ends good kept port = absurd (port stopped.0.failed)
+complete_of made faults ports_before ports_after holds named faults_before faults_after asked_before asked_after before after sink_before sink_after Module ended stopped ends good kept port = absurd (port stopped.0.failed.rose)
 complete_of made faults ports_before ports_after holds named faults_before faults_after asked_before asked_after before after sink_before sink_after NoMemory ended stopped ends good kept port = inr ends
 
 -- a stop's line is put with its status
@@ -162,10 +162,7 @@ boot_stop made faults ports_before ports_after holds named faults_before faults_
     good = good;
     map = map;
     same = is;
-    page = fails.page;
-    stopped = fails.stopped;
-    failed = fails.failed;
-    others = fails.others;
+    failed = fails;
   },
   asked,
 )

@@ -2,16 +2,11 @@ use Rattle.std.proofs.Common.{◌≡◌, ℕ, ◌<◌, ◌≤◌, Bool, true, fa
 use Rattle.std.specs.Prelude.{IsErrAnd, IfErr, IfOk}
 use Rattle.std.proofs.lemmas.Bool.{cases_Bool}
 use Rattle.std.proofs.lemmas.Bool.Decides.{nat_tests}
-use Rattle.guest_base.specs.Counts.{Rose}
 use Rattle.guest_io.proofs.CountLemmas.{Rose-after}
 use Rattle.efi_map.specs.declared.map.GuestMap.{GuestMap}
-use Rattle.efi_map.specs.declared.fault.MapFault.{MapFault}
-use Rattle.efi_map.specs.MapFile.{map_of}
 use Rattle.event_core.specs.declared.command.Command.{Command}
-use Rattle.guest_script.specs.declared.fault.ScriptFault.{ScriptFault}
 use Rattle.guest_script.specs.Script.{script_of}
 use Rattle.guest_run.specs.declared.stop.Cause.{Cause}
-use Rattle.event_core.specs.declared.boot.Boot.{Boot}
 use Rattle.event_core.specs.declared.boot.Recorded.{Recorded}
 use Rattle.event_core.specs.Boot.{BootRight}
 use Rattle.guest_base.specs.declared.memory.PageRun.{PageRun}

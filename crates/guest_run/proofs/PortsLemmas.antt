@@ -1,6 +1,6 @@
-use Rattle.std.proofs.Common.{◌≡◌, ℕ, suc, zero, ◌+◌, ◌<◌, Bool, true, false, Option, None, Some, List, [], ◌∷◌, ◌++◌, refl, sym, ◌∙◌, ap, subst, inl, inr, arith, ◌==◌, eqb-true, eq-eqb, length, filter, get_or}
+use Rattle.std.proofs.Common.{◌≡◌, ℕ, suc, zero, ◌<◌, false, None, Some, List, [], ◌∷◌, ◌++◌, refl, sym, ◌∙◌, ap, subst, inl, inr, arith, ◌==◌, eqb-true, length, filter, get_or}
 use Rattle.std.specs.Prelude.{slice_get, slice_set, All, Result, Ok, Err, IfOk}
-use Rattle.std.specs.List.{flat_map, AllByRecursion}
+use Rattle.std.specs.List.{AllByRecursion}
 use Rattle.std.proofs.lemmas.Bool.{cases_Bool}
 use Rattle.std.proofs.lemmas.List.Elements.{All-tail}
 use Rattle.guest_base.specs.declared.memory.PageRun.{PageRun}
@@ -17,8 +17,7 @@ use Rattle.guest_base.specs.Counts.{Rose}
 use Rattle.guest_base.specs.declared.memory.Page.{Page}
 use Rattle.efi_map.specs.declared.map.GuestMap.{GuestMap}
 use Rattle.guest_boot.specs.Stopped.{BootStopped}
-use Rattle.guest_run.specs.Stopping.{BootFailed}
-use Rattle.guest_run.specs.Endings.{first_made, first_faults, OthersUnmade}
+use Rattle.guest_run.specs.Endings.{BootFailed, OthersUnmade}
 use Rattle.guest_run.specs.Recordings.{History}
 use Rattle.guest_run.specs.Replies.{port_calls, PortsMade}
 
@@ -83,6 +82,6 @@ boot_failed made faults [] port_old port map page some unmade is stopped failed 
 boot_failed made faults (p ∷ old) port_old port map page some unmade is stopped failed = record {
   page = page;
   stopped = stopped;
-  failed = subst (λ q. Rose (faults q) (faults port)) is failed;
+  rose = subst (λ q. Rose (faults q) (faults port)) is failed;
   others = All-tail (λ p. made p ≡ []) p old unmade;
 }

@@ -1,4 +1,4 @@
-use Rattle.std.specs.Prelude.{ℕ, List, [], ◌∷◌, ◌++◌, take, drop, Option, None, Some, All, ◌≡◌, ◌⊎◌, Ok}
+use Rattle.std.specs.Prelude.{ℕ, List, [], ◌∷◌, ◌++◌, take, Option, None, Some, All, ◌≡◌, ◌⊎◌, Ok}
 use Rattle.guest_base.specs.Counts.{Rose}
 use Rattle.guest_base.specs.declared.memory.Page.{Page}
 use Rattle.event_core.specs.declared.module_call.ModuleCall.{ModuleCall}
@@ -52,20 +52,25 @@ AreGood holds named = (file : InputFile) → IsGood holds named file
 abbrev pub IsMapOf : (List ℕ → Option (List ℕ)) → Named → GuestMap → Type 0
 IsMapOf holds named map = (bytes : List ℕ) → holds named.map ≡ Some bytes → map_of bytes ≡ Ok map
 
--- Boot of the map file stopped at a page, where a call on the first port failed; the files are all good, and no other port was asked.
+-- boot of the map stopped at a page, where a call on the first port failed, and no other port was asked
+pub record BootFailed {P : Type 0} (made : P → List ModuleCall) (faults : P → ℕ) (before after : List P) (map : GuestMap) : Type 0 where
+  pub page : Page
+  pub stopped : BootStopped map.descriptors map.hosts 0 1 1 (first_made made after) page
+  pub rose : Rose (first_faults faults before) (first_faults faults after)
+  pub others : OthersUnmade made after
+
+-- boot of the map file's map did so, all files being good
 pub record BootStops {P : Type 0} (made : P → List ModuleCall) (faults : P → ℕ) (before after : List P) (holds : List ℕ → Option (List ℕ)) (named : Named) : Type 0 where
   pub good : AreGood holds named
   pub map : GuestMap
   pub same : IsMapOf holds named map
-  pub page : Page
-  pub stopped : BootStopped map.descriptors map.hosts 0 1 1 (first_made made after) page
-  pub failed : Rose (first_faults faults before) (first_faults faults after)
-  pub others : OthersUnmade made after
+  pub failed : BootFailed made faults before after map
 
--- A line was put whole, or a prefix of it was.
+-- a line was put
 abbrev pub Put : Option (List ℕ) → Option (List ℕ) → List ℕ → Type 0
 Put before after line = after ≡ appended before line
 
+-- a prefix of a line was put
 abbrev pub PutFront : Option (List ℕ) → Option (List ℕ) → List ℕ → Type 0
 PutFront before after line = AppendsPrefix before line after
 

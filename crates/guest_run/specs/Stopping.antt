@@ -1,16 +1,14 @@
-use Rattle.std.specs.Prelude.{ℕ, List, [], ◌∷◌, ◌++◌, Option, None, Some, ◌≡◌, ◌⊎◌}
+use Rattle.std.specs.Prelude.{ℕ, List, [], ◌∷◌, ◌++◌, Option, Some, ◌≡◌, ◌⊎◌}
 use Rattle.guest_base.specs.Counts.{Rose}
 use Rattle.guest_run.specs.declared.stop.InputFile.{InputFile}
 use Rattle.guest_run.specs.declared.stop.InputFile.TheVariants.{Script}
 use Rattle.guest_run.specs.declared.stop.Stop.{Stop}
 use Rattle.guest_run.specs.declared.stop.Stop.TheVariants.{Refused, NotRead, Module, NoMemory}
 use Rattle.guest_run.specs.Causes.{content_cause, cause_of, IsRefused}
-use Rattle.guest_boot.specs.Stopped.{BootStopped}
-use Rattle.guest_base.specs.declared.memory.Page.{Page}
 use Rattle.event_core.specs.declared.module_call.ModuleCall.{ModuleCall}
 use Rattle.efi_map.specs.declared.map.GuestMap.{GuestMap}
-use Rattle.guest_run.specs.Endings.{names_to, AsksFront, first_made, first_faults, OthersUnmade, Put, PutFront}
-use Rattle.guest_run.specs.Stops.{name_of, status_of, stop_line}
+use Rattle.guest_run.specs.Endings.{names_to, AsksFront, BootFailed, Put, PutFront}
+use Rattle.guest_run.specs.Stops.{name_of, stop_line}
 use Rattle.guest_run.specs.Words.{Named}
 
 -- What a stop says, at each layer.
@@ -37,13 +35,7 @@ AsksOne name before after (NotRead at) = after ≡ before ++ name ∷ []
 AsksOne name before after Module = after ≡ before ++ name ∷ []
 AsksOne name before after NoMemory = (after ≡ before ++ name ∷ []) ⊎ (after ≡ before)
 
--- boot of the map stopped at a page, where a call on the first port failed, and no other port was asked; or memory ran out
-pub record BootFailed {P : Type 0} (made : P → List ModuleCall) (faults : P → ℕ) (before after : List P) (map : GuestMap) : Type 0 where
-  pub page : Page
-  pub stopped : BootStopped map.descriptors map.hosts 0 1 1 (first_made made after) page
-  pub failed : Rose (first_faults faults before) (first_faults faults after)
-  pub others : OthersUnmade made after
-
+-- boot of the map failed, or memory ran out
 abbrev pub BootFails : {P : Type 0} → (P → List ModuleCall) → (P → ℕ) → List P → List P → GuestMap → Stop → Type 0
 BootFails made faults before after map (Refused at cause) = ⊥
 BootFails made faults before after map (NotRead at) = ⊥

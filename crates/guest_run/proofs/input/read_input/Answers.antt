@@ -1,5 +1,5 @@
-use Rattle.std.proofs.Common.{◌≡◌, ◌++◌, ◌∙◌, ap, arith, append_assoc, [], ◌∷◌}
-use Rattle.guest_run.specs.declared.stop.InputFile.TheVariants.{Order, Map, Script}
+use Rattle.std.proofs.Common.{◌++◌, ◌∙◌, ap, arith, append_assoc, [], ◌∷◌}
+use Rattle.guest_run.specs.declared.stop.InputFile.TheVariants.{Map, Script}
 use Rattle.guest_run.specs.Stopping.{Stopped}
 use Rattle.guest_run.specs.Views.{seen}
 use Rattle.guest_run.proofs.InputLemmas.{stopped_at, err-is, good_again, all_good}

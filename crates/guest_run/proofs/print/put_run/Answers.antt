@@ -1,4 +1,4 @@
-use Rattle.std.proofs.Common.{◌≡◌, ◌∙◌, ◌++◌, ap, refl, List, ℕ, None, Err, [], ◌∷◌}
+use Rattle.std.proofs.Common.{◌∙◌, ◌++◌, ap, refl, List, ℕ, None, Err}
 use Rattle.guest_io.specs.Writing.{appended}
 use Rattle.event_core.specs.Texts.{processors_text, pages_text, end_text, run_text}
 use Rattle.guest_run.specs.Replies.{replies_of_each}
