@@ -1,10 +1,9 @@
-use Rattle.std.proofs.Common.{◌≡◌, ◌≢◌, ◌⊎◌, ℕ, zero, suc, ◌+◌, ◌-◌, ◌*◌, ◌/◌, ◌%◌, ◌^◌, ◌<◌, ◌≤◌, Bool, true, false, ◌&&◌, Option, None, Some, List, [], ◌∷◌, ◌++◌, refl, sym, ◌∙◌, ap, subst, inl, inr, arith, cond, length, map, filter, get_or}
-use Rattle.std.specs.Prelude.{◌||◌, All, nat_lt, nat_le, if◌then◌else◌, IsPermutation}
+use Rattle.std.proofs.Common.{◌≡◌, ◌⊎◌, ℕ, zero, suc, ◌+◌, ◌-◌, ◌*◌, ◌/◌, ◌%◌, ◌<◌, ◌≤◌, Bool, true, false, ◌&&◌, List, [], ◌∷◌, ◌++◌, refl, sym, ◌∙◌, ap, inl, inr, arith, cond, length, map, filter, get_or}
+use Rattle.std.specs.Prelude.{◌||◌, All, nat_lt, if◌then◌else◌}
 use Rattle.std.specs.List.{list_any, AllPairs, flat_map}
-use Rattle.std.proofs.lemmas.Bool.{cases_Bool, cases_lt}
-use Rattle.std.proofs.lemmas.Bool.Decides.{nat_tests}
+use Rattle.std.proofs.lemmas.Bool.{cases_Bool}
 use Rattle.std.proofs.lemmas.List.Elements.{All-tail, All-filter}
-use Rattle.std.proofs.lemmas.List.Folds.{list_any_none, list_any-append, list_any-from_Any}
+use Rattle.std.proofs.lemmas.List.Folds.{list_any_none, list_any-append}
 use Rattle.std.proofs.lemmas.List.Kept.{AllPairs-filter}
 use Rattle.std.proofs.lemmas.List.Sorted.{list_any-IsPermutation}
 use Rattle.guest_base.specs.Ranges.{in_range}
@@ -12,7 +11,7 @@ use Rattle.guest_base.specs.declared.memory.Pages.{Pages}
 use Rattle.guest_base.specs.declared.memory.PageRun.{PageRun}
 use Rattle.event_core.specs.declared.boot.Descriptor.{Descriptor}
 use Rattle.event_core.specs.Map.{is_unaccepted, holds_page, descriptor_end, IsDescriptor, AreApart}
-use Rattle.event_core.specs.Stub.{default_unit, round_down, round_up, is_short, holds_unit, piece, early_of, unaccepted, EarlyPieces}
+use Rattle.event_core.specs.Stub.{default_unit, round_down, round_up, is_short, holds_unit, piece, early_of, unaccepted}
 use Rattle.unaccepted_bitmap.specs.StubMap.{EarlyRuns, pending_run}
 
 -- Early pieces lie in unaccepted descriptors, and meet no unit that lies wholly in one.

@@ -1,4 +1,4 @@
-use Rattle.std.proofs.Common.{◌≡◌, ◌≢◌, ℕ, zero, suc, ◌+◌, ◌-◌, ◌*◌, ◌^◌, ◌<◌, ◌≤◌, Bool, true, false, ◌&&◌, Option, None, Some, List, [], ◌∷◌, ◌++◌, refl, sym, ◌∙◌, ap, subst, inl, inr, arith, cond}
+use Rattle.std.proofs.Common.{◌≡◌, ◌≢◌, ℕ, zero, suc, ◌+◌, ◌^◌, ◌≤◌, Bool, true, false, ◌&&◌, Option, None, Some, List, [], ◌∷◌, ◌++◌, refl, sym, ◌∙◌, ap, subst, inl, inr, arith, cond}
 use Rattle.std.specs.Prelude.{Result, Ok, Err, OnOk}
 use mathlib.Core.Path.{fun_ext}
 use Rattle.std.proofs.lemmas.Bool.{cases_Bool}
@@ -8,34 +8,29 @@ use Rattle.guest_base.proofs.SearchLemmas.{any_such_same}
 use Rattle.guest_base.proofs.RangeLemmas.{in_range-intro}
 use Rattle.guest_base.specs.declared.memory.Page.{Page}
 use Rattle.guest_base.specs.declared.memory.Pages.{Pages}
-use Rattle.guest_base.specs.declared.memory.Units.{Units}
-use Rattle.guest_base.specs.declared.memory.PageRun.{PageRun}
 use Rattle.guest_base.specs.declared.memory.PageState.{PageState}
 use Rattle.guest_base.specs.declared.memory.PageState.TheVariants.{Pending}
 use Rattle.event_core.specs.declared.boot.Boot.{Boot}
 use Rattle.event_core.specs.declared.module_call.ModuleCall.{ModuleCall}
 use Rattle.event_core.specs.Acceptance.{AcceptanceSteps, stop_of}
-use Rattle.event_core.specs.Boot.{AcceptsPiece, AcceptsRun, pending_piece}
-use Rattle.event_core.specs.Calls.{States, state_after, SoundCalls}
-use Rattle.event_core.specs.MemoryRows.{page_state, is_pending, pages_first, pages_count, pending_in, AcceptsUnits}
+use Rattle.event_core.specs.Boot.{AcceptsPiece, pending_piece}
+use Rattle.event_core.specs.Calls.{state_after, SoundCalls}
+use Rattle.event_core.specs.MemoryRows.{page_state, is_pending}
 use Rattle.event_core.specs.Runs.{state_in as first_state_of}
 use Rattle.event_core.specs.Units.{bit_of, bit_after, is_marked, unit_first, unit_pages}
 use Rattle.event_core.proofs.StepsLemmas.{steps-outside, steps-sound, pending-is}
-use Rattle.event_core.proofs.SoundLemmas.{state_after-append, SoundCalls-append, accepts-sound}
+use Rattle.event_core.proofs.SoundLemmas.{state_after-append, SoundCalls-append}
 use Rattle.page_module.specs.States.{state_in}
 use Rattle.page_module.specs.Spans.{Taken}
-use Rattle.page_module.specs.Tables.{Table, without, same_ticket}
+use Rattle.page_module.specs.Tables.{Table, without}
 use Rattle.page_module.specs.declared.ticket.Ticket.{Ticket}
 use Rattle.page_module.proofs.OutLemmas.{same_ticket-refl}
-use Rattle.accept_sizes.specs.Accepts.{pending_of, span_end}
+use Rattle.accept_sizes.specs.Accepts.{pending_of}
 use Rattle.unaccepted_bitmap.specs.BitmapValue.{Bits}
-use Rattle.memory_core.specs.Bitmaps.{bits_in, SameBits, BitsAfter, PagesOf, ClearedIn}
+use Rattle.memory_core.specs.Bitmaps.{BitsAfter}
 use Rattle.memory_core.specs.Booted.{IsBooted, MarksArePending}
-use Rattle.memory_core.specs.Steps.{pages_of}
-use Rattle.memory_core.proofs.BitsLemmas.{run-pages-are, cleared-bits, cleared-same}
-use Rattle.memory_core.proofs.RunLemmas.{Stands, OneRun, run-accepts, run-stands, marks-push, steps-accept, bits-inside, bits-outside, state_after-same, state_after-some}
-use Rattle.memory_core.proofs.UnitsLemmas.{run-low, run-page-some}
-use Rattle.guest_boot.specs.Booting.{StandsAfter, Grew, IsEarly, AcceptedOut}
+use Rattle.memory_core.proofs.RunLemmas.{marks-push, steps-accept, bits-inside, state_after-same, state_after-some}
+use Rattle.guest_boot.specs.Booting.{StandsAfter, IsEarly, AcceptedOut}
 use Rattle.guest_boot.specs.declared.accept.Kept.{Kept}
 
 -- Pages that are taken out of the table, accepted by sizes and put back.

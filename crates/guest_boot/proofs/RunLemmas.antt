@@ -1,16 +1,14 @@
-use Rattle.std.proofs.Common.{◌≡◌, ◌≢◌, ℕ, ◌+◌, ◌*◌, ◌^◌, ◌<◌, ◌≤◌, Bool, true, false, ◌&&◌, Option, None, Some, List, [], ◌∷◌, ◌++◌, refl, sym, ◌∙◌, ap, subst, inl, inr, arith, cond}
+use Rattle.std.proofs.Common.{◌≡◌, ◌≢◌, ℕ, ◌+◌, ◌^◌, ◌<◌, ◌≤◌, true, false, Option, None, List, ◌++◌, sym, ◌∙◌, ap, subst, arith, cond}
 use Rattle.guest_base.specs.Ranges.{in_range}
 use Rattle.guest_base.specs.Search.{any_such}
 use Rattle.guest_base.specs.declared.memory.Page.{Page}
 use Rattle.guest_base.specs.declared.memory.Pages.{Pages}
 use Rattle.guest_base.specs.declared.memory.Units.{Units}
-use Rattle.guest_base.specs.declared.memory.PageState.{PageState}
 use Rattle.event_core.specs.declared.boot.Boot.{Boot}
 use Rattle.event_core.specs.declared.module_call.ModuleCall.{ModuleCall}
 use Rattle.event_core.specs.Acceptance.{stop_of}
 use Rattle.event_core.specs.Boot.{AcceptsRun}
-use Rattle.event_core.specs.Calls.{SoundCalls}
-use Rattle.event_core.specs.MemoryRows.{page_state, AcceptsUnits}
+use Rattle.event_core.specs.MemoryRows.{AcceptsUnits}
 use Rattle.event_core.specs.Runs.{state_in as first_state_of}
 use Rattle.event_core.specs.Units.{bit_after, unit_first, unit_pages}
 use Rattle.event_core.proofs.SoundLemmas.{SoundCalls-append, accepts-sound}
@@ -19,13 +17,13 @@ use Rattle.page_module.specs.Spans.{Taken}
 use Rattle.page_module.specs.Tables.{Table}
 use Rattle.accept_sizes.specs.Accepts.{pending_of}
 use Rattle.unaccepted_bitmap.specs.BitmapValue.{Bits}
-use Rattle.memory_core.specs.Bitmaps.{bits_in, SameBits, BitsAfter, PagesOf, ClearedIn}
+use Rattle.memory_core.specs.Bitmaps.{bits_in, BitsAfter, PagesOf, ClearedIn}
 use Rattle.memory_core.specs.Booted.{IsBooted}
 use Rattle.memory_core.specs.Steps.{pages_of}
 use Rattle.memory_core.proofs.BitsLemmas.{run-pages-are, cleared-bits, cleared-same}
 use Rattle.memory_core.proofs.RunLemmas.{Stands, OneRun, run-accepts, run-stands}
 use Rattle.memory_core.proofs.UnitsLemmas.{run-low, run-page-some}
-use Rattle.guest_boot.specs.Booting.{StandsAfter, Grew, AcceptedOut}
+use Rattle.guest_boot.specs.Booting.{StandsAfter, AcceptedOut}
 use Rattle.guest_boot.specs.declared.accept.Kept.{Kept}
 use Rattle.guest_boot.proofs.PieceLemmas.{PutBack, OnePiece, one-piece, none-left}
 

@@ -1,10 +1,8 @@
-use Rattle.std.proofs.Common.{◌≡◌, ℕ, zero, suc, ◌+◌, ◌-◌, ◌<◌, ◌≤◌, Bool, true, false, Option, None, Some, List, [], ◌∷◌, ◌++◌, refl, sym, ◌∙◌, ap, subst, inl, inr, arith, append_assoc, append-nil}
+use Rattle.std.proofs.Common.{◌≡◌, ℕ, zero, suc, ◌+◌, ◌-◌, ◌<◌, ◌≤◌, Bool, true, false, Option, None, Some, List, [], ◌∷◌, refl, sym, ◌∙◌, ap, subst, arith}
 use mathlib.Core.Path.{fun_ext}
-use Rattle.std.proofs.lemmas.Bool.{cases_lt}
 use Rattle.guest_base.specs.Ranges.{in_range}
-use Rattle.guest_base.specs.Search.{first_such}
 use Rattle.guest_base.proofs.SearchLemmas.{first_such_end}
-use Rattle.guest_base.proofs.RangeLemmas.{in_range-elim, in_range-below, in_range-past}
+use Rattle.guest_base.proofs.RangeLemmas.{in_range-elim, in_range-past}
 use Rattle.guest_base.specs.declared.memory.Units.{Units}
 use Rattle.event_core.specs.declared.boot.Boot.{Boot}
 use Rattle.event_core.specs.declared.module_call.ModuleCall.{ModuleCall}
@@ -14,8 +12,7 @@ use Rattle.memory_core.specs.Bitmaps.{bits_in, guarded_by, BitsAfter}
 use Rattle.memory_core.proofs.BitsLemmas.{guarded-same}
 use Rattle.memory_core.proofs.UnitsLemmas.{IsRunIn, first_run-facts}
 use Rattle.unaccepted_bitmap.specs.BitmapValue.{Bits}
-use Rattle.guest_boot.specs.Booting.{StandsAfter, runs_in}
-use Rattle.guest_boot.specs.declared.accept.Kept.{Kept}
+use Rattle.guest_boot.specs.Booting.{runs_in}
 
 -- The runs of set bits among units.
 

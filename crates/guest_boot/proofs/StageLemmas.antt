@@ -1,4 +1,4 @@
-use Rattle.std.proofs.Common.{◌≡◌, ℕ, Option, None, Some, List, [], ◌∷◌, ◌++◌, refl, sym, ◌∙◌, ap, subst, inl, inr, map, append-nil}
+use Rattle.std.proofs.Common.{◌≡◌, ℕ, Option, None, Some, List, [], ◌++◌, refl, sym, ◌∙◌, ap, subst, map, append-nil}
 use Rattle.guest_base.specs.declared.memory.Block.{Block}
 use Rattle.guest_base.specs.declared.memory.Page.{Page}
 use Rattle.guest_base.specs.declared.memory.Pages.{Pages}
@@ -7,10 +7,10 @@ use Rattle.event_core.specs.declared.boot.Boot.{Boot}
 use Rattle.event_core.specs.declared.module_call.ModuleCall.{ModuleCall}
 use Rattle.event_core.specs.Boot.{InTurn, StagePart, Stage, Early, PoolAccepted, PoolShared, BlockAccepted, AcceptsPiece, AcceptsBlock, stages_of, pool_stages}
 use Rattle.event_core.specs.Cut.{cut}
-use Rattle.event_core.specs.MemoryRows.{page_state, pending_in}
+use Rattle.event_core.specs.MemoryRows.{pending_in}
 use Rattle.event_core.specs.Units.{bit_after}
 use Rattle.unaccepted_bitmap.specs.StubMap.{pending_run}
-use Rattle.memory_core.specs.Bitmaps.{bits_in, BitsAfter}
+use Rattle.memory_core.specs.Bitmaps.{BitsAfter}
 use Rattle.unaccepted_bitmap.specs.BitmapValue.{Bits}
 use Rattle.guest_boot.specs.Booting.{Grew}
 use Rattle.guest_boot.proofs.InTurnLemmas.{Parts, turn-append, turn-before, turn-map, turn-unmap, turn-same}

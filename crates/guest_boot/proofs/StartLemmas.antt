@@ -1,5 +1,5 @@
-use Rattle.std.proofs.Common.{◌≡◌, ◌≢◌, ℕ, suc, get_or, ◌+◌, ◌*◌, ◌/◌, ◌%◌, ◌^◌, ◌<◌, ◌≤◌, Bool, true, false, ◌&&◌, Option, None, Some, List, [], ◌∷◌, ◌++◌, refl, sym, ◌∙◌, ap, subst, inl, inr, arith, cond, length, map}
-use Rattle.std.specs.Prelude.{All, AllPairs, nat_lt, find, slice_index, ◌==◌, IfSome}
+use Rattle.std.proofs.Common.{◌≡◌, ◌≢◌, ℕ, suc, get_or, ◌+◌, ◌*◌, ◌/◌, ◌%◌, ◌^◌, ◌<◌, ◌≤◌, Bool, true, false, ◌&&◌, Option, None, Some, List, [], ◌∷◌, refl, sym, ◌∙◌, ap, subst, inl, inr, arith, cond, length, map}
+use Rattle.std.specs.Prelude.{All, AllPairs, nat_lt, find, slice_index, ◌==◌}
 use Rattle.std.specs.Int.{bit_at}
 use Rattle.std.specs.List.{AllByRecursion, flat_map}
 use Rattle.std.specs.Option.{option_map}
@@ -9,20 +9,15 @@ use Rattle.std.proofs.lemmas.List.Elements.{recursion_from_All}
 use Rattle.guest_base.specs.Ranges.{in_range}
 use Rattle.guest_base.specs.Search.{any_such}
 use Rattle.guest_base.proofs.SearchLemmas.{any_such_is}
-use Rattle.guest_base.specs.declared.memory.Block.{Block}
-use Rattle.guest_base.specs.declared.memory.Page.{Page}
 use Rattle.guest_base.specs.declared.memory.Pages.{Pages}
 use Rattle.guest_base.specs.declared.memory.PageRun.{PageRun}
 use Rattle.guest_base.specs.declared.memory.PageState.{PageState}
 use Rattle.guest_base.specs.declared.memory.HostRun.{HostRun}
 use Rattle.event_core.specs.declared.boot.Descriptor.{Descriptor}
 use Rattle.event_core.specs.declared.boot.Boot.{Boot}
-use Rattle.event_core.specs.declared.module_call.ModuleCall.{ModuleCall}
-use Rattle.event_core.specs.Boot.{BootRight, BootCalls, InTurn, StagePart, Stage, Early, PoolAccepted, PoolShared, BlockAccepted, AcceptsPiece, AcceptsBlock, stages_of, pool_stages}
-use Rattle.event_core.specs.Calls.{SoundCalls}
 use Rattle.event_core.specs.Cut.{cut, blocks_of, ram_ranges, without_pool}
 use Rattle.event_core.specs.Map.{MapRules, first_state}
-use Rattle.event_core.specs.MemoryRows.{page_state, is_pending, pending_in}
+use Rattle.event_core.specs.MemoryRows.{is_pending}
 use Rattle.event_core.specs.Runs.{AreMaximalRuns, GoesBefore, run_holds, run_end, state_in as first_state_of}
 use Rattle.event_core.specs.Stub.{default_unit, unaccepted, round_down, least_start, stub_base, stub_length, stub_bit}
 use Rattle.event_core.specs.Units.{bit_of, bit_after, unit_count, unit_first, unit_pages}
@@ -30,16 +25,14 @@ use Rattle.event_core.proofs.MapLemmas.{first_none, any_pending, pending_first}
 use Rattle.page_module.specs.States.{state_in}
 use Rattle.page_module.specs.Tables.{Rising}
 use Rattle.unaccepted_bitmap.specs.BitmapValue.{Bits}
-use Rattle.unaccepted_bitmap.specs.StubMap.{StubBitmap, EarlyRuns, pending_run}
-use Rattle.memory_core.specs.Bitmaps.{bits_in, SameBits, BitsAfter}
+use Rattle.unaccepted_bitmap.specs.StubMap.{StubBitmap, EarlyRuns}
+use Rattle.memory_core.specs.Bitmaps.{bits_in, SameBits}
 use Rattle.memory_core.specs.Booted.{IsBooted}
 use Rattle.guest_boot.specs.Booting.{StandsAfter, IsEarly}
 use Rattle.guest_boot.specs.Starting.{Uncalled, IsFirstBoot, BitsOf}
-use Rattle.guest_boot.specs.Stopped.{BootStopped}
 use Rattle.guest_boot.specs.declared.accept.Kept.{Kept}
 use Rattle.guest_boot.proofs.CutLemmas.{runs-low}
 use Rattle.guest_boot.proofs.EarlyLemmas.{UnitHolds, all-apart, early-held, early-at, unaccepted-each, unaccepted-apart}
-use Rattle.guest_boot.proofs.InTurnLemmas.{turn-append, turn-before, turn-map}
 
 -- What a guest is before boot's first call.
 

@@ -8,6 +8,8 @@ mod cut_tests;
 mod fault;
 mod pages;
 mod stages;
+#[cfg(test)]
+mod tests;
 mod world;
 
 pub use fault::BootFault;

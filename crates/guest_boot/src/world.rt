@@ -1,4 +1,4 @@
-//! Boot without a pool.
+//! Boot: what is made of a map, and the memory that it leaves.
 ghost use Rattle.std.specs.Prelude.{◌≡◌, ◌≤◌, ◌+◌, ◌^◌, [], None, Some, Err, List, All, IfOk, OnOk, map};
 ghost use Rattle.guest_base.specs.Counts.{Rose};
 ghost use Rattle.guest_base.specs.declared.memory.Block.{Block as BlockValue};

@@ -1,9 +1,7 @@
-use Rattle.std.proofs.Common.{◌≡◌, ◌++◌, ◌∙◌, None, Some, List, sym, ap, refl, subst}
+use Rattle.std.proofs.Common.{◌++◌, ◌∙◌, None, Some, List, sym, ap, refl, subst}
 use Rattle.event_core.specs.declared.module_call.ModuleCall.{ModuleCall}
-use Rattle.event_core.specs.Acceptance.{stop_of}
-use Rattle.event_core.specs.Boot.{AcceptsPiece}
 use Rattle.page_module.specs.States.{state_in}
-use Rattle.guest_boot.specs.Booting.{StandsAfter, Grew}
+use Rattle.guest_boot.specs.Booting.{StandsAfter}
 use Rattle.guest_boot.specs.declared.accept.Kept.{Kept}
 use Rattle.guest_boot.proofs.PieceLemmas.{both-ok, early-few, early-here, PutBack, piece-stands, piece-accepts}
 use Rattle.guest_boot.proofs.accept.accept_piece.Goals as goal

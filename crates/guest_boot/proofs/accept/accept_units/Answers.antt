@@ -1,9 +1,9 @@
-use Rattle.std.proofs.Common.{◌≡◌, ◌++◌, ◌∙◌, None, Some, List, sym, ap, refl, subst}
+use Rattle.std.proofs.Common.{◌++◌, ◌∙◌, None, Some, List, sym, ap, refl, subst}
 use Rattle.event_core.specs.declared.module_call.ModuleCall.{ModuleCall}
 use Rattle.guest_boot.specs.Booting.{StandsAfter}
 use Rattle.guest_boot.specs.declared.accept.Kept.{Kept}
 use Rattle.guest_boot.proofs.PieceLemmas.{both-ok, PutBack}
-use Rattle.guest_boot.proofs.RunLemmas.{RunOf, RunDone, run-few, run-here, run-made, run-after, run-others}
+use Rattle.guest_boot.proofs.RunLemmas.{RunOf, run-few, run-here, run-made, run-after, run-others}
 use Rattle.guest_boot.proofs.accept.accept_units.Goals as goal
 
 pub work-requires-clause-few : goal.work-requires-clause-few

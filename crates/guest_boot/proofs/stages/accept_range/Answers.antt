@@ -1,12 +1,11 @@
-use Rattle.std.proofs.Common.{◌≡◌, ◌∙◌, ◌++◌, ◌+◌, drop, Err, None, Some, List, Option, refl, sym, ap, subst, arith}
+use Rattle.std.proofs.Common.{◌≡◌, ◌∙◌, ◌+◌, drop, Err, None, Some, List, sym, ap, subst, arith}
 use Rattle.std.proofs.lemmas.Result.{err_from_is_err_and}
-use Rattle.guest_base.specs.declared.memory.Page.{Page}
 use Rattle.guest_base.specs.declared.memory.Units.{Units}
-use Rattle.event_core.specs.declared.module_call.ModuleCall.{ModuleCall}
 use Rattle.event_core.specs.Boot.{AcceptsRun, InTurn, set_runs}
 use Rattle.event_core.specs.Units.{guarded_units}
 use Rattle.memory_core.specs.Bitmaps.{bits_in, guarded_by}
 use Rattle.guest_boot.specs.Booting.{Grew}
+use Rattle.guest_boot.proofs.PieceLemmas.{err-same}
 use Rattle.guest_boot.proofs.InTurnLemmas.{leads-start, leads-stop, leads-next, leads-end, at-drop}
 use Rattle.guest_boot.proofs.SetRunsLemmas.{SetRuns, runs-in-set, runs-are, set-behind}
 use Rattle.guest_boot.proofs.stages.accept_range.Goals as goal
@@ -28,7 +27,7 @@ returns-in_err-accept_units-clause-stopped g c page is =
     let Done : List Units → Type 0 = λ all. Grew made (g.P.Port.made c.accept_units.new.port) (λ now. InTurn (AcceptsRun c.args.boot.now) made all now (Some page)) in
     subst Done same
     (leads-stop (AcceptsRun c.args.boot.now) made (g.P.Port.made c.loop-run.port) (g.P.Port.made c.accept_units.new.port) runs c.loop-run.run-index _ page c.loop-run-test.true c.loop-run.invariant.leads
-    (c.in_err-accept_units.ensures.stopped page (ap (λ x. Err x) (sym e.2) ∙ sym e.1 ∙ is)))
+    (c.in_err-accept_units.ensures.stopped page (ap (λ x. Err x) (sym e.2 ∙ err-same c.from_residual-in_err-accept_units.result _ _ e.1 is))))
 
 pub loop-run-preserved : goal.loop-run-preserved
 loop-run-preserved g c =

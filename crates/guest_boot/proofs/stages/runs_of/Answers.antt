@@ -1,8 +1,8 @@
-use Rattle.std.proofs.Common.{◌≡◌, ◌∙◌, ◌++◌, ◌∷◌, ◌+◌, ◌-◌, [], List, sym, ap, arith, append_assoc, append-nil}
+use Rattle.std.proofs.Common.{◌∙◌, ◌++◌, ◌∷◌, ◌+◌, ◌-◌, [], sym, ap, arith, append_assoc}
 use Rattle.event_core.specs.Boot.{runs_from}
 use Rattle.event_core.specs.Units.{bit_of}
 use Rattle.memory_core.proofs.UnitsLemmas.{first_run-facts}
-use Rattle.guest_boot.proofs.SetRunsLemmas.{runs-next, runs-none, runs-enough}
+use Rattle.guest_boot.proofs.SetRunsLemmas.{runs-next}
 use Rattle.guest_boot.proofs.stages.runs_of.Goals as goal
 
 pub overflow_add-from : goal.overflow_add-from

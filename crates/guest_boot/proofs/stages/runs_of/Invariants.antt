@@ -1,4 +1,4 @@
-use Rattle.std.proofs.Common.{◌≡◌, ◌≤◌, ◌+◌, ◌-◌, ◌++◌}
+use Rattle.std.proofs.Common.{◌≡◌, ◌≤◌, ◌-◌, ◌++◌}
 use Rattle.event_core.specs.Boot.{runs_from}
 use Rattle.event_core.specs.Units.{bit_of}
 use Rattle.guest_boot.proofs.stages.runs_of.Given as goal

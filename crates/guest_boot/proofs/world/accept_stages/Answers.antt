@@ -1,5 +1,6 @@
-use Rattle.std.proofs.Common.{◌≡◌, ◌∙◌, Err, None, Some, sym, ap}
+use Rattle.std.proofs.Common.{◌∙◌, Err, None, Some, sym, ap}
 use Rattle.std.proofs.lemmas.Result.{err_from_is_err_and, on_ok_weaker}
+use Rattle.guest_boot.proofs.PieceLemmas.{err-same}
 use Rattle.guest_boot.proofs.StageLemmas.{early-stops, blocks-behind}
 use Rattle.guest_boot.proofs.world.accept_stages.Goals as goal
 
@@ -7,7 +8,7 @@ pub returns-in_err-accept_early-clause-stopped : goal.returns-in_err-accept_earl
 returns-in_err-accept_early-clause-stopped g c page is pieces are =
     let e = err_from_is_err_and c.from_residual.result c.from_residual.ensures.1 in
     early-stops c.args.boot.now (g.P.Port.made c.args.port.now) (g.P.Port.made c.accept_early.new.port) c.args.pieces.now pieces c.args.blocks.now page c.requires.unmade c.requires.no_pool c.requires.blocks are
-    (c.in_err-accept_early.ensures.stopped page (ap (λ x. Err x) (sym e.2) ∙ sym e.1 ∙ is))
+    (c.in_err-accept_early.ensures.stopped page (ap (λ x. Err x) (sym e.2 ∙ err-same c.from_residual.result _ _ e.1 is)))
 
 pub returns-clause-made : goal.returns-clause-made
 returns-clause-made g c =

@@ -1,16 +1,16 @@
-use Rattle.std.proofs.Common.{◌≡◌, ◌∙◌, Err, None, Some, List, [], refl, sym, ap, subst, length}
+use Rattle.std.proofs.Common.{◌≡◌, ◌∙◌, Err, List, sym, ap, subst}
 use Rattle.std.specs.Prelude.{All}
 use Rattle.std.proofs.lemmas.Result.{err_from_is_err_and}
 use Rattle.guest_base.specs.declared.memory.PageRun.{PageRun}
 use Rattle.event_core.specs.declared.module_call.ModuleCall.{ModuleCall}
 use Rattle.page_module.specs.States.{state_in}
 use Rattle.memory_core.specs.Bitmaps.{BitsAfter}
-use Rattle.guest_boot.specs.Booting.{StandsAfter, IsEarly}
+use Rattle.guest_boot.specs.Booting.{IsEarly}
 use Rattle.guest_boot.specs.declared.accept.Kept.{Kept}
 use Rattle.guest_boot.proofs.PieceLemmas.{err-same}
 use Rattle.guest_boot.proofs.StartLemmas.{ram-ends, ram-rises, first-stands, cut-is}
 use Rattle.guest_boot.proofs.StageLemmas.{bits-same, with_calls}
-use Rattle.guest_boot.proofs.BootLemmas.{Begins, Went, begins-booted, begins-early, begins-right, begins-own, begins-rules, begins-stopped}
+use Rattle.guest_boot.proofs.BootLemmas.{Begins, begins-booted, begins-early, begins-right, begins-own, begins-rules, begins-stopped}
 use Rattle.guest_boot.proofs.world.boot.Goals as goal
 
 pub cut_blocks-requires : goal.cut_blocks-requires
