@@ -1,44 +1,26 @@
-use Rattle.std.proofs.Common.{◌≡◌, ℕ, suc, zero, ◌+◌, ◌-◌, ◌^◌, ◌<◌, Bool, true, false, ◌&&◌, Option, None, Some, List, [], ◌∷◌, ◌++◌, refl, sym, ◌∙◌, ap, subst, inl, inr, arith, cond, ◌==◌, eqb-true, eq-eqb, length, get_or, map, filter}
-use Rattle.std.specs.Prelude.{slice_get, slice_set, find, All, Result, Ok, Err, IfOk, OnOk}
-use Rattle.std.specs.Option.{option_map}
-use Rattle.std.specs.List.{filter_map, flat_map, AllByRecursion}
-use Rattle.std.proofs.Math.Path.{fun_ext}
-use Rattle.std.proofs.lemmas.Bool.{cases_Bool, cases_lt}
-use Rattle.std.proofs.lemmas.Bool.Decides.{nat_tests}
-use Rattle.std.proofs.lemmas.List.Elements.{filter_map-append, filter-append, All-tail, recursion_from_All}
+use Rattle.std.proofs.Common.{◌≡◌, List, [], ◌∷◌, ◌++◌, refl, sym, ◌∙◌, ap, subst, ◌==◌, eq-eqb, length, filter}
+use Rattle.std.specs.Prelude.{All, Result, Ok, Err, IfOk}
+use Rattle.std.specs.List.{flat_map, AllByRecursion}
+use Rattle.std.proofs.lemmas.List.Elements.{recursion_from_All}
 use Rattle.guest_base.specs.declared.memory.PageRun.{PageRun}
-use Rattle.guest_base.specs.declared.memory.HostRun.{HostRun}
-use Rattle.event_core.specs.declared.boot.Descriptor.{Descriptor}
 use Rattle.event_core.specs.declared.boot.Boot.{Boot}
 use Rattle.event_core.specs.declared.boot.Recorded.{Recorded}
 use Rattle.event_core.specs.declared.command.Command.{Command}
 use Rattle.event_core.specs.declared.module_call.ModuleCall.{ModuleCall}
 use Rattle.event_core.specs.declared.entry.Entry.{Entry}
-use Rattle.event_core.specs.declared.reply.Reply.{Reply}
-use Rattle.event_core.specs.Map.{MapRules}
-use Rattle.event_core.specs.Runs.{run_holds, state_in, AreMaximalRuns}
-use Rattle.event_core.specs.Calls.{States, calls_in, calls_of, is_done, covers, after_call, state_after, SoundCalls}
-use Rattle.event_core.specs.Boot.{BootRight}
-use Rattle.event_core.specs.Moved.{Moved, made_by}
-use Rattle.event_core.specs.Next.{Step, next_step}
-use Rattle.event_core.specs.MemoryRows.{page_state}
-use Rattle.event_core.specs.Legal.{at_place, with_bytes, LegalAfter, Legal, Whole}
-use Rattle.event_core.specs.Turns.{numbers_from}
-use Rattle.event_core.specs.Printed.{replies_by_processor, replies_of_cpu}
-use Rattle.event_core.specs.Texts.{run_text}
-use Rattle.guest_io.specs.Writing.{appended}
+use Rattle.event_core.specs.Runs.{state_in}
+use Rattle.event_core.specs.Calls.{calls_in, calls_of, SoundCalls}
+use Rattle.event_core.specs.Legal.{Legal, Whole}
 use Rattle.event_core.specs.RangedScripts.{IsRanged, RangedScripts}
 use Rattle.guest_run.specs.First.{IsFirstCommand}
-use Rattle.guest_run.specs.Recordings.{PrintedAfter, History}
+use Rattle.guest_run.specs.Recordings.{History}
 use Rattle.event_core.specs.AcceptedOnce.{AcceptedOnce}
 use Rattle.event_core.specs.Untouched.{Untouched}
 use Rattle.event_core.specs.Disjoint.{Disjoint}
 use Rattle.event_core.specs.BytesTold.{BytesTold}
 use Rattle.event_core.specs.FullOnlyWhereFull.{FullOnlyWhereFull}
 use Rattle.event_core.proofs.RangedLemmas.{ranged-untouched, ranged-disjoint, ranged-told, ranged-full}
-use Rattle.event_core.proofs.MapLemmas.{first_none}
 use Rattle.event_core.proofs.SoundLemmas.{accepted_once}
-use Rattle.guest_run.specs.Bounds.{EndInMemory}
 use Rattle.guest_run.specs.Replies.{calls_by, port_calls}
 use Rattle.guest_run.proofs.PortsLemmas.{all_mine}
 

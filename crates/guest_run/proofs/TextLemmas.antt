@@ -1,4 +1,4 @@
-use Rattle.std.proofs.Common.{◌≡◌, ℕ, Option, None, List, [], ◌∷◌, ◌++◌, refl, sym, ◌∙◌, ap, inl, inr, ◌==◌, map, filter}
+use Rattle.std.proofs.Common.{◌≡◌, ℕ, false, Option, None, List, [], ◌∷◌, ◌++◌, refl, sym, ◌∙◌, ap, inl, inr, ◌==◌, map, filter}
 use Rattle.std.specs.Prelude.{Ok, Err, OnOk, OnErr, Result}
 use Rattle.std.specs.List.{filter_map}
 use Rattle.std.proofs.Math.Path.{fun_ext}
