@@ -46,7 +46,7 @@ same_first holds named Script Script a b refused told = (refl, same_cause holds 
 
 -- ---- a line
 
-pub put_of : (before after : Option (List ℕ)) (sink_before sink_after : ℕ) (line : List ℕ) (status ended : ℕ) → EndsWith before after sink_before sink_after line status ended → ended ≡ status → (5 ≡ status → ⊥) → (6 ≡ status → ⊥) → Put before after line
+put_of : (before after : Option (List ℕ)) (sink_before sink_after : ℕ) (line : List ℕ) (status ended : ℕ) → EndsWith before after sink_before sink_after line status ended → ended ≡ status → (5 ≡ status → ⊥) → (6 ≡ status → ⊥) → Put before after line
 put_of before after sink_before sink_after line status ended (inl h) is five six = h.1
 put_of before after sink_before sink_after line status ended (inr (inl h)) is five six = absurd (five (sym h.0 ∙ is))
 put_of before after sink_before sink_after line status ended (inr (inr h)) is five six = absurd (six (sym h ∙ is))

@@ -56,6 +56,7 @@ fn status_after(status: u8, put: Result<(), PutFault>) -> u8
 fn end_with_line<K: Sink>(alloc: Global, out: &mut K, status: u8, line: &str) -> Ended
     ensures run { result.run ≡ None }
     ensures ends { EndsWith (K.written out.old) (K.written out.new) (K.faults out.old) (K.faults out.new) line.now status result.status }
+    ensures put { (result.status ≡ 5) ⊎ (result.status ≡ 6) ⊎ Put (K.written out.old) (K.written out.new) line.now }
 {
     let put = out.put(alloc, line.as_bytes());
     Ended {
