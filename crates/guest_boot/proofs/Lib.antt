@@ -1,3 +1,9 @@
-pub mod MapLemmas
-pub mod BlockLemmas
+pub mod PieceLemmas
+pub mod InTurnLemmas
+pub mod RunLemmas
+pub mod SetRunsLemmas
+pub mod CutLemmas
+pub mod EarlyLemmas
+pub mod StartLemmas
+pub mod StageLemmas
 pub mod BootLemmas

@@ -1,2 +1,4 @@
-pub mod FirstForm
 pub mod Worlds
+pub mod Stopped
+pub mod Booting
+pub mod Starting

@@ -1,6 +1,16 @@
 //! What boot makes of a map.
 #![tactic(auto)]
 
+mod accept;
+mod cut;
+#[cfg(test)]
+mod cut_tests;
+mod fault;
+mod pages;
+mod stages;
+#[cfg(test)]
+mod tests;
 mod world;
 
+pub use fault::BootFault;
 pub use world::{World, boot};

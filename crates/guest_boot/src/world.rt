@@ -1,77 +1,142 @@
-//! Boot, for maps on which it has no module call to make.
-ghost use Rattle.std.specs.Prelude.{◌≡◌, ◌%◌, [], None, All, IsTrue, IfOk, IfSome};
+//! Boot: what is made of a map, and the memory that it leaves.
+ghost use Rattle.std.specs.Prelude.{◌≡◌, ◌≤◌, ◌+◌, ◌^◌, [], None, Some, Err, List, All, IfOk, OnOk, map};
+ghost use Rattle.guest_base.specs.Counts.{Rose};
+ghost use Rattle.guest_base.specs.declared.memory.Block.{Block as BlockValue};
+ghost use Rattle.guest_base.specs.declared.memory.Page.{Page as PageValue};
+ghost use Rattle.guest_base.specs.declared.memory.Pages.{Pages as PagesValue};
+ghost use Rattle.guest_base.specs.declared.memory.PageRun.{PageRun as PageRunValue};
 ghost use Rattle.event_core.specs.Map.{MapRules};
-ghost use Rattle.event_core.specs.Boot.{BootRight};
-ghost use Rattle.guest_boot.specs.FirstForm.{IsWholeBlocks, IsPlain, IsUnmarked};
+ghost use Rattle.event_core.specs.Boot.{BootRight, InTurn, StagePart, stages_of};
+ghost use Rattle.event_core.specs.Cut.{cut};
+ghost use Rattle.memory_core.specs.Booted.{IsBooted};
+ghost use Rattle.unaccepted_bitmap.specs.StubMap.{pending_run};
+ghost use Rattle.guest_boot.specs.Booting.{StandsAfter, IsEarly};
+ghost use Rattle.guest_boot.specs.Starting.{IsFirstBoot};
 ghost use Rattle.guest_boot.specs.Worlds.{WorldStands};
+ghost use Rattle.guest_boot.specs.Stopped.{BootStopped};
 
+use crate::accept::Kept;
+use crate::cut::cut_blocks;
+use crate::fault::BootFault;
+use crate::stages::{accept_blocks, accept_early};
 use efi_map::GuestMap;
-use event_core::{Boot, Runs};
-use guest_base::{Items, PageRun};
+use event_core::{Boot, Hosts, Runs};
+use guest_base::{Block, Bytes, Items, PageRun};
+use memory_core::Memory;
+use page_module::{PageTable, Port};
 use std::alloc::{AllocError, Global};
 use unaccepted_bitmap::{Bitmap, early};
 
 /// The bytes of a unit where no table is handed in: 2 MiB.
 const UNIT_BYTES: u64 = 2_097_152;
-/// The pages of a block of the greatest order.
-const BLOCK_PAGES: u64 = 1024;
 
 /// A guest as boot leaves it.
-#[derive(Debug, Drop)]
+#[derive(Drop)]
 pub struct World {
     pub boot: Boot,
-    /// The bits of the unaccepted units; none where the map has no unaccepted descriptor.
-    pub bits: Option<Bitmap>,
+    pub memory: Memory,
 }
 
-/// Boots a map without a pool, with one area and one processor, where boot has no module call to make: the map has no host
-/// record, none of its memory is accepted early, and each run of RAM begins and ends on a border of 4 MiB. `None` is only given
-/// for other maps.
-pub fn boot(alloc: Global, map: &GuestMap) -> Result<Option<World>, AllocError>
+/// Boots a map without a pool. All module calls are made through `port`, which has made none: those of the early pieces, and then of
+/// the blocks below 4 MiB whose guarded units aren't all accepted, rising.
+///
+/// `Module` comes only where one of these acceptances stopped, so only where the port's count of faults rose; the port's calls are
+/// then boot's up to there.
+pub fn boot<P: Port>(
+    alloc: Global,
+    map: &GuestMap,
+    areas: u32,
+    cpus: u32,
+    port: &mut P,
+) -> Result<World, BootFault>
     requires rules { MapRules map.now.descriptors map.now.hosts }
-    ensures right { IfOk result (λ made. IfSome made (λ w. BootRight map.now.descriptors map.now.hosts 0 1 1 w.boot)) }
-    ensures calls { IfOk result (λ made. IfSome made (λ w. w.boot.calls ≡ [])) }
-    ensures stands { IfOk result (λ made. IfSome made (λ w. WorldStands w)) }
+    requires few { cpus ≤ 64 }
+    requires unmade { P.made port.old ≡ [] }
+    ensures right { IfOk result (λ w. BootRight map.now.descriptors map.now.hosts 0 areas cpus w.boot) }
+    ensures stands { IfOk result (λ w. WorldStands w) }
+    ensures made { IfOk result (λ w. P.made port.new ≡ w.boot.calls) }
+    ensures stopped { (page : PageValue) → result ≡ Err (BootFault.Module page) → BootStopped map.now.descriptors map.now.hosts 0 areas cpus (P.made port.new) page }
+    ensures failed { (page : PageValue) → result ≡ Err (BootFault.Module page) → Rose (P.faults port.old) (P.faults port.new) }
+    ensures faults { P.faults port.old ≤ P.faults port.new }
 {
-    let early = early(alloc, map)?;
     let ram = map.ram(alloc)?;
-    if !map.hosts.is_empty() || !early.is_empty() || !are_whole_blocks(ram.as_slice()) {
-        return Ok(None);
-    }
     let bits = Bitmap::of_map(alloc, map)?;
-    let boot = booted(alloc, ram, &bits)?;
-    Ok(Some(World { boot, bits }))
+    let pieces = early(alloc, map)?;
+    let blocks = cut_blocks(alloc, &ram)?;
+    let table = PageTable::new(alloc, &ram)?;
+    let mut boot = first_boot(alloc, &map.hosts, ram, &bits, areas, cpus)?;
+    let mut kept = Kept {
+        table,
+        bits,
+        calls: Vec::new(alloc),
+    };
+    accept_stages(
+        alloc,
+        &boot,
+        &mut kept,
+        port,
+        pieces.as_slice(),
+        blocks.as_slice(),
+    )?;
+    let Kept { table, bits, calls } = kept;
+    boot.calls = Items::from_vec(calls);
+    let memory = Memory::new(alloc, &boot, table, bits)?;
+    Ok(World { boot, memory })
 }
 
-/// What is recorded of a boot that made no call, where these are the bits of the unaccepted units.
-fn booted(alloc: Global, ram: Runs, bits: &Option<Bitmap>) -> Result<Boot, AllocError>
-    ensures plain { IfOk result (λ boot. IsPlain ram boot) }
-    ensures unit { IfOk result (λ boot. IfSome bits.now (λ b. boot.unit ≡ b.unit)) }
-    ensures base { IfOk result (λ boot. IfSome bits.now (λ b. boot.base ≡ b.base)) }
-    ensures bits { IfOk result (λ boot. IfSome bits.now (λ b. boot.bits ≡ b.bits)) }
-    ensures none { IfOk result (λ boot. bits.now ≡ None → IsUnmarked boot) }
+/// What is recorded of a boot before its first call, where these are the bits of the unaccepted units.
+fn first_boot(
+    alloc: Global,
+    hosts: &Hosts,
+    ram: Runs,
+    bits: &Option<Bitmap>,
+    areas: u32,
+    cpus: u32,
+) -> Result<Boot, AllocError>
+    ensures { IfOk result (λ boot. IsFirstBoot hosts.now areas cpus ram bits.now boot) }
 {
     let (base, unit, bits) = match bits {
         Some(bits) => (bits.base(), bits.unit(), bits.copy_bytes(alloc)?),
-        None => (0, UNIT_BYTES, Items::new(alloc)),
+        None => (0, UNIT_BYTES, Bytes::new(alloc)),
     };
     Ok(Boot {
         ram,
-        hosts: Items::new(alloc),
+        hosts: Items::from_vec(Vec::from_slice(alloc, hosts.as_slice())?),
         base,
         unit,
         bits,
-        cpus: 1,
+        cpus,
         slots: 0,
-        areas: 1,
+        areas,
         pool: None,
         calls: Items::new(alloc),
     })
 }
 
-/// Whether each run begins and ends on a border of 4 MiB.
-fn are_whole_blocks(runs: &[PageRun]) -> bool
-    ensures { IsTrue result → All IsWholeBlocks runs.now }
+/// Accepts the early pieces, and then the blocks below 4 MiB.
+fn accept_stages<P: Port>(
+    alloc: Global,
+    boot: &Boot,
+    kept: &mut Kept,
+    port: &mut P,
+    pieces: &[PageRun],
+    blocks: &[Block],
+) -> Result<(), BootFault>
+    requires unmade { P.made port.old ≡ [] }
+    requires booted { IsBooted boot.now }
+    requires stands { StandsAfter boot.now [] kept.old }
+    requires early { All (λ (piece : PageRunValue). IsEarly boot.now piece.pages) pieces.now }
+    requires no_pool { boot.now.pool ≡ None }
+    requires blocks { blocks.now ≡ cut boot.now }
+    requires orders { All (λ (b : BlockValue). b.order ≤ 10) blocks.now }
+    requires ends { All (λ (b : BlockValue). b.first + 2 ^ b.order ≤ 2 ^ 28) blocks.now }
+    ensures stands { OnOk result (StandsAfter boot.now (P.made port.new) kept.new) }
+    ensures made { OnOk result ((early : List PagesValue) → pieces.now ≡ map pending_run early → InTurn (StagePart boot.now) [] (stages_of boot.now early) (P.made port.new) None) }
+    ensures stopped { (page : PageValue) → result ≡ Err (BootFault.Module page)
+        → (early : List PagesValue) → pieces.now ≡ map pending_run early → InTurn (StagePart boot.now) [] (stages_of boot.now early) (P.made port.new) (Some page) }
+    ensures failed { (page : PageValue) → result ≡ Err (BootFault.Module page) → Rose (P.faults port.old) (P.faults port.new) }
+    ensures faults { P.faults port.old ≤ P.faults port.new }
 {
-    runs.iter().all(|run| run.pages.first % BLOCK_PAGES == 0 && run.pages.count % BLOCK_PAGES == 0)
+    accept_early(alloc, boot, kept, port, pieces)?;
+    accept_blocks(alloc, boot, kept, port, blocks)
 }

@@ -1,11 +1,10 @@
-use Rattle.std.proofs.Common.{◌≡◌, ℕ, ◌+◌, ◌<◌, ◌≤◌, Bool, false, Option, None, Some, List, [], ◌∷◌, ◌++◌, refl, sym, ◌∙◌, ap, subst, inl, inr, arith, cond, append_assoc, append-nil, eq-eqb, max, All}
+use Rattle.std.proofs.Common.{◌≡◌, ℕ, ◌+◌, ◌<◌, ◌≤◌, Bool, true, false, Option, None, Some, List, [], ◌∷◌, ◌++◌, refl, sym, ◌∙◌, ap, subst, inl, inr, arith, cond, append_assoc, append-nil, eq-eqb, max, All}
 use Rattle.std.specs.Prelude.{fold, map, filter, is_some, slice_get, count_by}
 use Rattle.std.specs.Option.{option_and_then, option_map}
 use Rattle.std.specs.List.{AllByRecursion}
 use Rattle.std.proofs.lemmas.Bool.{cases_Bool}
 use Rattle.std.proofs.lemmas.List.Sums.{fold-append}
 use Rattle.std.proofs.lemmas.List.Elements.{All-nil, All-cons}
-use Rattle.guest_base.specs.Search.{any_such}
 use Rattle.guest_base.proofs.SearchLemmas.{first_such_none}
 use Rattle.guest_base.specs.declared.memory.Units.{Units}
 use Rattle.event_core.specs.declared.boot.Boot.{Boot}
@@ -21,17 +20,18 @@ use Rattle.event_core.specs.declared.reply.Reply.{Reply}
 use Rattle.event_core.specs.declared.reply.Reply.TheVariants as reply
 use Rattle.event_core.specs.Calls.{calls_in, calls_of}
 use Rattle.event_core.specs.Acceptance.{stop_of}
-use Rattle.event_core.specs.Units.{guarded_units, units_cleared, bit_after, run_after}
+use Rattle.event_core.specs.Units.{guarded_units}
 use Rattle.event_core.specs.Claims.{Claimed, claim_of, in_the_way, claim_meets}
 use Rattle.event_core.specs.Moved.{Moved, entries_of, made_by}
 use Rattle.event_core.specs.Own.{present, replied, own_of}
 use Rattle.event_core.specs.Refusals.{refusal_of, memory_range_refusal}
-use Rattle.event_core.specs.MemoryRows.{run_of_claim, report_event, next_run, cleared_by, AcceptsUnits, some_unaccepted}
+use Rattle.event_core.specs.MemoryRows.{run_of_claim, report_event, next_run, cleared_by, some_unaccepted}
 use Rattle.event_core.specs.Next.{Step, next_step, step_of, unrefused_step, refused_or, accept_step, claim_reply, report_reply}
 use Rattle.event_core.specs.Legal.{Follows, LegalAfter, bare, with_bytes, moved_after, with_moved, at_place, place_of, same_place, CallsFit, ComesBefore, greatest_stamp, stamp_of}
 use Rattle.event_core.proofs.StandingLemmas.{IsPlaced, claim_of-memory, calls_of-memory}
 use Rattle.event_core.proofs.SoundLemmas.{entries_of-push}
-use Rattle.guest_run.specs.Running.{IsMine, History, entry_for, Running}
+use Rattle.memory_core.specs.Steps.{last_stamp}
+use Rattle.guest_run.specs.Running.{IsMine, History, entry_for, Running, memory_of}
 
 -- Histories of one processor, whose number is 0.
 
@@ -141,9 +141,6 @@ running-push boot scripts entries clock s run next fits =
 abbrev pub there_moved : Boot → List (List Command) → List Entry → List Moved
 there_moved boot scripts entries = at_place place.Memory (with_moved boot scripts entries)
 
-abbrev pub there : Boot → List (List Command) → List Entry → List Entry
-there boot scripts entries = entries_of (there_moved boot scripts entries)
-
 -- a history of entries that stand where their events take place
 abbrev pub Placed : Boot → List (List Command) → List Entry → Type 0
 Placed boot scripts entries = AllByRecursion (IsPlaced boot) (with_moved boot scripts entries)
@@ -151,18 +148,48 @@ Placed boot scripts entries = AllByRecursion (IsPlaced boot) (with_moved boot sc
 pub running-placed : (boot : Boot) (scripts : List (List Command)) (entries : List Entry) (clock : ℕ) → Running boot scripts entries clock → Placed boot scripts entries
 running-placed boot scripts entries clock run = placed-all boot (with_moved boot scripts entries) run.history.each
 
-there-claim : (boot : Boot) (scripts : List (List Command)) (entries : List Entry) (cpu : ℕ) → Placed boot scripts entries → claim_of boot (there boot scripts entries) cpu ≡ claim_of boot entries cpu
+-- the memory's entries say what all entries say of claims and calls
+pub there-claim : (boot : Boot) (scripts : List (List Command)) (entries : List Entry) (cpu : ℕ) → Placed boot scripts entries → claim_of boot (memory_of boot scripts entries) cpu ≡ claim_of boot entries cpu
 there-claim boot scripts entries cpu placed = claim_of-memory boot cpu (with_moved boot scripts entries) placed ∙ ap (λ es. claim_of boot es cpu) (moved-entries boot scripts [] entries)
 
-there-calls : (boot : Boot) (scripts : List (List Command)) (entries : List Entry) → Placed boot scripts entries → calls_of boot (there boot scripts entries) ≡ calls_of boot entries
+pub there-calls : (boot : Boot) (scripts : List (List Command)) (entries : List Entry) → Placed boot scripts entries → calls_of boot (memory_of boot scripts entries) ≡ calls_of boot entries
 there-calls boot scripts entries placed = calls_of-memory boot (with_moved boot scripts entries) placed ∙ ap (calls_of boot) (moved-entries boot scripts [] entries)
 
-there-run : (boot : Boot) (scripts : List (List Command)) (entries : List Entry) (units : Option Units) → Placed boot scripts entries → run_of_claim boot (there boot scripts entries) units ≡ run_of_claim boot entries units
-there-run boot scripts entries None placed = refl
-there-run boot scripts entries (Some units) placed = ap (λ calls. run_after boot calls units units.first) (there-calls boot scripts entries placed)
+-- one more entry of the memory, or of the processor's own
+there-more : (history : List Moved) (m : Moved) → m.entry.place ≡ place.Memory → entries_of (at_place place.Memory (history ++ m ∷ [])) ≡ entries_of (at_place place.Memory history) ++ (bare m).entry ∷ []
+there-more [] m is = let t : same_place place.Memory m.entry.place ≡ true = ap (same_place place.Memory) is in rw t refl
+there-more (x ∷ history) m is =
+    elim (cases_Bool (same_place place.Memory x.entry.place)) [
+      | inl t ↦ rw t (ap (λ es. (bare x).entry ∷ es) (there-more history m is))
+      | inr f ↦ rw f (there-more history m is)
+    ]
 
-there-cleared : (boot : Boot) (scripts : List (List Command)) (entries : List Entry) (claim : Claimed) (calls : List ModuleCall) → Placed boot scripts entries → cleared_by boot (there boot scripts entries) claim calls ≡ cleared_by boot entries claim calls
-there-cleared boot scripts entries claim calls placed = ap (λ before. claim.cleared + units_cleared boot before (before ++ calls) claim.run) (there-calls boot scripts entries placed)
+there-still : (history : List Moved) (m : Moved) → m.entry.place ≡ place.Own → at_place place.Memory (history ++ m ∷ []) ≡ at_place place.Memory history
+there-still [] m is = let f : same_place place.Memory m.entry.place ≡ false = ap (same_place place.Memory) is in rw f refl
+there-still (x ∷ history) m is =
+    elim (cases_Bool (same_place place.Memory x.entry.place)) [
+      | inl t ↦ rw t (ap (λ ms. bare x ∷ ms) (there-still history m is))
+      | inr f ↦ rw f (there-still history m is)
+    ]
+
+pub there-push : (boot : Boot) (scripts : List (List Command)) (entries : List Entry) (entry : Entry) → entry.place ≡ place.Memory → memory_of boot scripts (entries ++ entry ∷ []) ≡ memory_of boot scripts entries ++ record entry { reply = None } ∷ []
+there-push boot scripts entries entry is =
+    ap (λ ms. entries_of (at_place place.Memory ms)) (moved-push boot scripts [] entries entry) ∙ there-more (with_moved boot scripts entries) (with_bytes boot scripts (with_moved boot scripts entries) entry) is
+
+pub there-own : (boot : Boot) (scripts : List (List Command)) (entries : List Entry) (entry : Entry) → entry.place ≡ place.Own → memory_of boot scripts (entries ++ entry ∷ []) ≡ memory_of boot scripts entries
+there-own boot scripts entries entry is =
+    ap (λ ms. entries_of (at_place place.Memory ms)) (moved-push boot scripts [] entries entry) ∙ ap entries_of (there-still (with_moved boot scripts entries) (with_bytes boot scripts (with_moved boot scripts entries) entry) is)
+
+-- the memory's last stamp isn't above the processor's clock
+last-greatest : (last : ℕ) (moved : List Moved) → fold (λ last (e : Entry). max last e.stamp) last (entries_of moved) ≡ fold (λ greatest (m : Moved). max greatest m.entry.stamp) last moved
+last-greatest last [] = refl
+last-greatest last (m ∷ moved) = last-greatest (max last m.entry.stamp) moved
+
+pub last-low : (boot : Boot) (scripts : List (List Command)) (entries : List Entry) (clock : ℕ) → Running boot scripts entries clock → last_stamp (memory_of boot scripts entries) ≤ clock
+last-low boot scripts entries clock run =
+    let same = last-greatest 0 (at_place place.Memory (with_moved boot scripts entries)) in
+    let low = at-stamps clock place.Memory (with_moved boot scripts entries) run.history.stamps in
+    omega (arith, same, low)
 
 -- the present command of the one script
 pub present-is : (script : List Command) (own : List Moved) (c : Command) → slice_get script (replied own) ≡ Some c → present (script ∷ []) 0 own ≡ Some c
@@ -191,44 +218,31 @@ clear-way boot memory (Some units) one free =
     })
 
 -- an acceptance claims its guarded units
-pub claim-next : (boot : Boot) (script : List Command) (entries : List Entry) (start len : ℕ) → boot.cpus ≡ 1 → Placed boot (script ∷ []) entries → slice_get script (replied (with_moved boot (script ∷ []) entries)) ≡ Some (command.Accept start len) → memory_range_refusal start len ≡ None → claim_of boot entries 0 ≡ None
-    → next_step boot (script ∷ []) 0 (with_moved boot (script ∷ []) entries) (there_moved boot (script ∷ []) entries) [] ≡ Some (record { event = event.Claim None (guarded_units boot start len) (run_of_claim boot entries (guarded_units boot start len)); reply = claim_reply (run_of_claim boot entries (guarded_units boot start len)) })
-claim-next boot script entries start len one placed now fine free =
+pub claim-next : (boot : Boot) (script : List Command) (entries : List Entry) (start len : ℕ) → boot.cpus ≡ 1 → slice_get script (replied (with_moved boot (script ∷ []) entries)) ≡ Some (command.Accept start len) → memory_range_refusal start len ≡ None → claim_of boot (memory_of boot (script ∷ []) entries) 0 ≡ None
+    → next_step boot (script ∷ []) 0 (with_moved boot (script ∷ []) entries) (there_moved boot (script ∷ []) entries) []
+    ≡ Some (record { event = event.Claim None (guarded_units boot start len) (run_of_claim boot (memory_of boot (script ∷ []) entries) (guarded_units boot start len)); reply = claim_reply (run_of_claim boot (memory_of boot (script ∷ []) entries) (guarded_units boot start len)) })
+claim-next boot script entries start len one now fine free =
     let units = guarded_units boot start len in
-    let memory = there boot (script ∷ []) entries in
-    let none : claim_of boot memory 0 ≡ None = there-claim boot (script ∷ []) entries 0 placed ∙ free in
+    let memory = memory_of boot (script ∷ []) entries in
     step-is boot script (with_moved boot (script ∷ []) entries) (there_moved boot (script ∷ []) entries) (command.Accept start len) [] now fine
-    ∙ ap (λ claim. accept_step boot memory claim units []) none
+    ∙ ap (λ claim. accept_step boot memory claim units []) free
     ∙ ap (option_map (λ e. let s : Step = record { event = e; reply = claim_reply (run_of_claim boot memory units) } in s))
-    (ap (λ way. elim way as (λ _. Option Event) [ None ↦ Some (event.Claim None units (run_of_claim boot memory units)) | Some _ ↦ None ]) (clear-way boot memory units one none))
-    ∙ ap (λ run. Some (let s : Step = record { event = event.Claim None units run; reply = claim_reply run } in s)) (there-run boot (script ∷ []) entries units placed)
+    (ap (λ way. elim way as (λ _. Option Event) [ None ↦ Some (event.Claim None units (run_of_claim boot memory units)) | Some _ ↦ None ]) (clear-way boot memory units one free))
 
 -- and reports each run
-pub report-next : (boot : Boot) (script : List Command) (entries : List Entry) (start len : ℕ) (claim : Claimed) (calls : List ModuleCall) → Placed boot (script ∷ []) entries → slice_get script (replied (with_moved boot (script ∷ []) entries)) ≡ Some (command.Accept start len) → memory_range_refusal start len ≡ None → claim_of boot entries 0 ≡ Some claim
-    → next_step boot (script ∷ []) 0 (with_moved boot (script ∷ []) entries) (there_moved boot (script ∷ []) entries) calls ≡ Some (record { event = report_event boot claim calls; reply = report_reply (stop_of calls) (next_run boot claim (stop_of calls)) (cleared_by boot entries claim calls) })
-report-next boot script entries start len claim calls placed now fine has =
-    let units = guarded_units boot start len in
-    let memory = there boot (script ∷ []) entries in
+pub report-next : (boot : Boot) (script : List Command) (entries : List Entry) (start len : ℕ) (claim : Claimed) (calls : List ModuleCall) → slice_get script (replied (with_moved boot (script ∷ []) entries)) ≡ Some (command.Accept start len) → memory_range_refusal start len ≡ None → claim_of boot (memory_of boot (script ∷ []) entries) 0 ≡ Some claim
+    → next_step boot (script ∷ []) 0 (with_moved boot (script ∷ []) entries) (there_moved boot (script ∷ []) entries) calls
+    ≡ Some (record { event = report_event boot claim calls; reply = report_reply (stop_of calls) (next_run boot claim (stop_of calls)) (cleared_by boot (memory_of boot (script ∷ []) entries) claim calls) })
+report-next boot script entries start len claim calls now fine has =
     step-is boot script (with_moved boot (script ∷ []) entries) (there_moved boot (script ∷ []) entries) (command.Accept start len) calls now fine
-    ∙ ap (λ c. accept_step boot memory c units calls) (there-claim boot (script ∷ []) entries 0 placed ∙ has)
-    ∙ ap (λ cleared. Some (let s : Step = record { event = report_event boot claim calls; reply = report_reply (stop_of calls) (next_run boot claim (stop_of calls)) cleared } in s)) (there-cleared boot (script ∷ []) entries claim calls placed)
-
--- the calls of a run fit, over the memory's entries too
-pub report-fits : (boot : Boot) (scripts : List (List Command)) (entries : List Entry) (claim : Claimed) (calls : List ModuleCall) → Placed boot scripts entries → AcceptsUnits boot (calls_of boot entries) claim.run calls → CallsFit boot (there boot scripts entries) (report_event boot claim calls)
-report-fits boot scripts entries claim calls placed accepts = let P : List ModuleCall → Type 0 = λ before. AcceptsUnits boot before claim.run calls in subst P (sym (there-calls boot scripts entries placed)) accepts
-
-there-unaccepted : (boot : Boot) (scripts : List (List Command)) (entries : List Entry) (units : Option Units) → Placed boot scripts entries → some_unaccepted boot (there boot scripts entries) units ≡ some_unaccepted boot entries units
-unfolding some_unaccepted
-there-unaccepted boot scripts entries None placed = refl
-there-unaccepted boot scripts entries (Some units) placed = ap (λ calls. any_such (bit_after boot calls) units.first units.count) (there-calls boot scripts entries placed)
+    ∙ ap (λ c. accept_step boot (memory_of boot (script ∷ []) entries) c (guarded_units boot start len) calls) has
 
 -- a query tells whether a bit is set
-pub query-next : (boot : Boot) (script : List Command) (entries : List Entry) (start len : ℕ) → Placed boot (script ∷ []) entries → slice_get script (replied (with_moved boot (script ∷ []) entries)) ≡ Some (command.Query start len) → memory_range_refusal start len ≡ None
-    → next_step boot (script ∷ []) 0 (with_moved boot (script ∷ []) entries) (there_moved boot (script ∷ []) entries) [] ≡ Some (record { event = event.Asked (some_unaccepted boot entries (guarded_units boot start len)); reply = Some (reply.Query (some_unaccepted boot entries (guarded_units boot start len))) })
-query-next boot script entries start len placed now fine =
-    let units = guarded_units boot start len in
+pub query-next : (boot : Boot) (script : List Command) (entries : List Entry) (start len : ℕ) → slice_get script (replied (with_moved boot (script ∷ []) entries)) ≡ Some (command.Query start len) → memory_range_refusal start len ≡ None
+    → next_step boot (script ∷ []) 0 (with_moved boot (script ∷ []) entries) (there_moved boot (script ∷ []) entries) []
+    ≡ Some (record { event = event.Asked (some_unaccepted boot (memory_of boot (script ∷ []) entries) (guarded_units boot start len)); reply = Some (reply.Query (some_unaccepted boot (memory_of boot (script ∷ []) entries) (guarded_units boot start len))) })
+query-next boot script entries start len now fine =
     step-is boot script (with_moved boot (script ∷ []) entries) (there_moved boot (script ∷ []) entries) (command.Query start len) [] now fine
-    ∙ ap (λ found. Some (let s : Step = record { event = event.Asked found; reply = Some (reply.Query found) } in s)) (there-unaccepted boot (script ∷ []) entries units placed)
 
 -- ---- replies
 

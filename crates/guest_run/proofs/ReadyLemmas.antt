@@ -1,257 +1,360 @@
-use Rattle.std.proofs.Common.{◌≡◌, ℕ, suc, ◌+◌, ◌-◌, ◌*◌, ◌<◌, ◌≤◌, Bool, true, false, Option, None, Some, List, [], ◌∷◌, ◌++◌, refl, sym, ◌∙◌, ap, subst, arith, cond, append-nil}
-use Rattle.std.specs.Prelude.{slice_get, IfSome, nat_lt, max, min, ◌/◌}
-use Rattle.std.specs.Option.{option_and_then}
-use Rattle.unaccepted_bitmap.specs.BitmapValue.{Bits}
-use Rattle.guest_base.specs.Ranges.{in_range}
-use Rattle.guest_base.specs.Search.{first_such, row_length}
-use Rattle.guest_base.proofs.SearchLemmas.{first_such-Some, first_such_same, row_length_same, row_length-pass_each, row_length-le, row_length-pass, any_such_same}
+use Rattle.std.proofs.Common.{◌≡◌, ◌≢◌, ℕ, ◌+◌, ◌^◌, ◌<◌, ◌≤◌, Bool, Option, None, Some, List, [], ◌∷◌, ◌++◌, refl, sym, ◌∙◌, ap, subst, arith, length}
+use Rattle.std.specs.Prelude.{slice_get, IfSome, max}
 use Rattle.guest_base.specs.declared.memory.Page.{Page}
+use Rattle.guest_base.specs.declared.memory.Pages.{Pages}
 use Rattle.guest_base.specs.declared.memory.Units.{Units}
 use Rattle.event_core.specs.declared.boot.Boot.{Boot}
 use Rattle.event_core.specs.declared.command.Command.{Command}
 use Rattle.event_core.specs.declared.command.Command.TheVariants as command
 use Rattle.event_core.specs.declared.module_call.ModuleCall.{ModuleCall}
+use Rattle.event_core.specs.declared.event.Event.{Event}
 use Rattle.event_core.specs.declared.event.Event.TheVariants as event
 use Rattle.event_core.specs.declared.entry.Entry.{Entry}
+use Rattle.event_core.specs.declared.entry.Turn.{Turn}
+use Rattle.event_core.specs.declared.entry.Place.{Place}
+use Rattle.event_core.specs.declared.entry.Place.TheVariants as place
 use Rattle.event_core.specs.declared.reply.Reply.{Reply}
+use Rattle.event_core.specs.declared.reply.Reply.TheVariants as reply
 use Rattle.event_core.specs.Holdings.{Own}
 use Rattle.event_core.specs.Refusals.{refusal_of, memory_range_refusal}
-use Rattle.event_core.specs.Calls.{calls_of, calls_in}
+use Rattle.event_core.specs.Calls.{calls_of}
 use Rattle.event_core.specs.Acceptance.{stop_of}
-use Rattle.event_core.specs.Units.{bit_after, first_run, run_at, units_cleared, unit_count, guarded, guarded_units, with_guard, units_between}
-use Rattle.event_core.specs.Claims.{Claimed, goes_on, opened}
-use Rattle.event_core.specs.MemoryRows.{next_run, AcceptsUnits, run_of_claim, some_unaccepted}
-use Rattle.event_core.specs.Next.{Step, report_reply, claim_reply}
+use Rattle.event_core.specs.Units.{bit_after, guarded_units, units_end, unit_pages, units_cleared}
+use Rattle.event_core.specs.Claims.{Claimed, opened, goes_on, claim_of, in_the_way}
+use Rattle.event_core.specs.MemoryRows.{run_of_claim, next_run, cleared_by, report_event, some_unaccepted, AcceptsUnits}
+use Rattle.event_core.specs.Next.{Step, claim_reply, report_reply}
+use Rattle.event_core.specs.Legal.{place_of}
 use Rattle.event_core.proofs.StandingLemmas.{calls_of-push}
-use Rattle.guest_run.specs.declared.memory.Memory.{Memory}
+use Rattle.page_module.specs.Spans.{Taken}
+use Rattle.accept_sizes.specs.Accepts.{Accepts}
+use Rattle.memory_core.specs.Booted.{IsBooted}
+use Rattle.memory_core.specs.Value.{MemoryValue}
+use Rattle.memory_core.specs.Steps.{Appends, IsOutFor, last_stamp, bare_entry, pages_of}
+use Rattle.memory_core.specs.Answers.{BegunBy, ReportedBy, IsBlocked}
+use Rattle.memory_core.specs.declared.memory.Begin.{Begin}
+use Rattle.memory_core.specs.declared.memory.Begin.TheVariants.{Clear, Claimed as IsClaimed, Blocked}
+use Rattle.memory_core.specs.declared.memory.Reported.{Reported}
+use Rattle.memory_core.specs.declared.memory.Reported.TheVariants.{Next, Closed, Stopped}
+use Rattle.memory_core.proofs.UnitsLemmas.{first_run-facts, run-low, IsRunIn}
 use Rattle.guest_run.specs.declared.processor.Processor.{Processor}
-use Rattle.guest_run.specs.Standing.{Stands}
 use Rattle.guest_run.specs.Running.{At, made_entry}
-use Rattle.guest_run.specs.Kept.{KeptFor, SameBits, bits_in, table_of, guarded_by, both_or_none, any_in}
-use Rattle.guest_run.specs.Ready.{Ready, Claiming, EndsOr, ClaimedOr}
-use Rattle.guest_run.proofs.StandsLemmas.{bits-outside}
-use Rattle.guest_run.proofs.AtLemmas.{at-report, at-refused, at-query, at-claim, refused_step, query_step, claim_made, number_after}
+use Rattle.guest_run.specs.Ready.{Ready, Claiming, EndsOr, calls_by_now, next_turn}
+use Rattle.guest_run.specs.Answered.{begun_with, span_in, reply_in, IsRunOf}
+use Rattle.guest_run.proofs.OneProcessor.{last-low, clear-way}
+use Rattle.guest_run.proofs.AtLemmas.{at-refused, at-query, at-claim, at-report, query_step, claim_made, report_made, bare_made, number_after}
+use Rattle.guest_run.proofs.SpanLemmas.{same-units, pages-behind, pages-some, span-accepts}
 
-in_range-elim : (first count n : ℕ) → in_range first count n ≡ true → (first ≤ n) × (n < first + count)
-in_range-elim first count n h = grind arith
+-- ---- one more entry
 
-in_range-past : (first count n : ℕ) → first + count ≤ n → in_range first count n ≡ false
-in_range-past first count n high = grind arith
+abbrev pub entry_with : ℕ → ℕ → Place → Event → Option Reply → Entry
+entry_with stamp number place event reply = record { stamp = stamp; cpu = record { 0 = 0 }; cmd = number; place = place; event = event; reply = reply }
 
--- ---- the first run of set bits
+-- the processor with its memory after a step, and one more entry
+abbrev pub with_entry : Processor → MemoryValue → ℕ → ℕ → Place → Event → Option Reply → Processor
+with_entry p memory stamp number place event reply = record { boot = p.boot; script = p.script; memory = memory; entries = p.entries ++ entry_with stamp number place event reply ∷ [] }
 
-pub record IsRunIn (test : ℕ → Bool) (from end : ℕ) (run : Units) : Type 0 where
-  pub low : from ≤ run.first
-  pub some : 0 < run.count
-  pub high : run.first + run.count ≤ end
-  pub set : (unit : ℕ) → in_range run.first run.count unit ≡ true → test unit ≡ true
+last-of : (p : Processor) (number : ℕ) (claim : Option Claimed) → At p.boot p.script p.entries p.memory.entries number claim → last_stamp p.memory.entries ≤ length p.entries
+last-of p number claim at =
+    let low = last-low p.boot (p.script ∷ []) p.entries (length p.entries) at.running in
+    let same = ap last_stamp at.there in
+    omega (arith, low, same)
 
-run_at-facts : (test : ℕ → Bool) (from end : ℕ) (found : Option ℕ) (run : Units) → first_such test from (end - from) ≡ found → run_at test end found ≡ Some run → IsRunIn test from end run
-run_at-facts test from end None run search is = cc
-run_at-facts test from end (Some first) run search is =
-    let where_first = first_such-Some test from (end - from) first search in
-    let made : Units = record { first = first; count = row_length test first (end - first) } in
-    let same : made ≡ run = (let s : Some made ≡ Some run = is in cc) in
-    let low = where_first.low in
-    let high = where_first.high in
-    let one : end - first ≡ suc (end - first - 1) = omega arith in
-    let long = ap (row_length test first) one ∙ row_length-pass test first (end - first - 1) where_first.passes in
-    let fits = row_length-le test first (end - first) in
-    let each = row_length-pass_each test first (end - first) in
-    let P : Units → Type 0 = IsRunIn test from end in
-    subst P same
-    (record {
-      low = low;
-      some = omega (arith, long);
-      high = omega (arith, fits);
-      set = λ unit inside. (let two = in_range-elim first (row_length test first (end - first)) unit inside in each.passes unit two.0 two.1);
-    })
+-- the lock's last stamp is far below its limit
+pub last-small : (p : Processor) (number clock : ℕ) (memory : MemoryValue) → Ready p number → length p.entries ≡ clock → clock < 2 ^ 64 → memory ≡ record p.memory { room = memory.room } → last_stamp memory.entries < 2 ^ 64
+last-small p number clock memory ready is small kept =
+    let low = last-of p number None ready.at in
+    let same = ap (λ (m : MemoryValue). last_stamp m.entries) kept in
+    omega (arith, low, same, is, small)
 
-pub first_run-facts : (test : ℕ → Bool) (from end : ℕ) (run : Units) → first_run test from end ≡ Some run → IsRunIn test from end run
-unfolding first_run
-first_run-facts test from end run is = run_at-facts test from end (first_such test from (end - from)) run refl is
+-- room changes nothing of a processor
+pub ready-room : (p : Processor) (number : ℕ) (memory : MemoryValue) → Ready p number → memory ≡ record p.memory { room = memory.room } → Ready (record p { memory = memory }) number
+ready-room p number memory ready kept =
+    let P : MemoryValue → Type 0 = λ m. Ready (record p { memory = m }) number in
+    let here : P (record p.memory { room = memory.room }) = record { at = ready.at; same = ready.same; booted = ready.booted } in
+    subst P (sym kept) here
 
-run_at-same : (test other : ℕ → Bool) (from end : ℕ) (found : Option ℕ) → ((unit : ℕ) → from ≤ unit → test unit ≡ other unit) → first_such test from (end - from) ≡ found → run_at test end found ≡ run_at other end found
-run_at-same test other from end None same is = refl
-run_at-same test other from end (Some first) same is =
-    let low = (first_such-Some test from (end - from) first is).low in
-    ap (λ n. Some (let u : Units = record { first = first; count = n } in u)) (row_length_same test other first (end - first) (record { same = λ n l h. same n (omega arith) }))
+-- a step of the memory gives the processor's entry its stamp
+stamp-is : (p : Processor) (number : ℕ) (claim : Option Claimed) (memory : MemoryValue) (turned : Turn) (e : Event) → At p.boot p.script p.entries p.memory.entries number claim → Appends p.memory memory (next_turn p number) turned e → max (length p.entries) (last_stamp p.memory.entries) + 1 ≡ length p.entries + 1
+stamp-is p number claim memory turned e at appends = let low = last-of p number claim at in omega (arith, low)
 
-pub first_run-same : (test other : ℕ → Bool) (from end : ℕ) → ((unit : ℕ) → from ≤ unit → test unit ≡ other unit) → first_run test from end ≡ first_run other from end
-unfolding first_run
-first_run-same test other from end same =
-    run_at-same test other from end (first_such test from (end - from)) same refl
-    ∙ ap (run_at other end) (first_such_same test other from (end - from) (record { same = λ n l h. same n l }))
+at-stepped : (p : Processor) (number more : ℕ) (claim then : Option Claimed) (memory : MemoryValue) (turned : Turn) (s : Step) (e : Event) (r : Option Reply) → At p.boot p.script p.entries p.memory.entries number claim → place_of p.boot s.event ≡ place.Memory → e ≡ s.event → r ≡ s.reply
+    → Appends p.memory memory (next_turn p number) turned s.event
+    → At p.boot p.script (p.entries ++ made_entry p.boot p.entries number s ∷ []) (p.memory.entries ++ bare_made p.boot p.entries number s ∷ []) more then
+    → At p.boot p.script (p.entries ++ entry_with turned.clock number place.Memory e r ∷ []) memory.entries more then
+at-stepped p number more claim then memory turned s e r at is_place is_event is_reply appends made =
+    let stamp = stamp-is p number claim memory turned s.event at appends in
+    let clock : turned.clock ≡ length p.entries + 1 = ap (λ (t : Turn). t.clock) appends.clock ∙ stamp in
+    let bare : bare_entry (next_turn p number) (last_stamp p.memory.entries) s.event ≡ bare_made p.boot p.entries number s =
+    ap (λ n. entry_with n number place.Memory s.event None) stamp ∙ ap (λ at. entry_with (length p.entries + 1) number at s.event None) (sym is_place) in
+    let entry : entry_with turned.clock number place.Memory e r ≡ made_entry p.boot p.entries number s =
+    ap (λ n. entry_with n number place.Memory e r) clock ∙ ap (λ at. entry_with (length p.entries + 1) number at e r) (sym is_place)
+    ∙ ap (λ x. entry_with (length p.entries + 1) number (place_of p.boot s.event) x r) is_event ∙ ap (entry_with (length p.entries + 1) number (place_of p.boot s.event) s.event) is_reply in
+    let P : List Entry → Type 0 = λ m. At p.boot p.script (p.entries ++ made_entry p.boot p.entries number s ∷ []) m more then in
+    let Q : Entry → Type 0 = λ x. At p.boot p.script (p.entries ++ x ∷ []) memory.entries more then in
+    subst Q (sym entry) (subst P (sym (appends.entries ∙ ap (λ x. p.memory.entries ++ x ∷ []) bare)) made)
 
--- ---- a run is reported
+-- ---- a refused command
 
--- the next run, by the kept bits
-abbrev pub next_by : (ℕ → Bool) → Units → Units → Option Page → Option Units
-next_by set units run None = first_run set (run.first + run.count) (units.first + units.count)
-next_by set units run (Some page) = None
-
-abbrev pub reported : Units → List ModuleCall → Option Page → Option Units → ℕ → Step
-reported run calls stopped next cleared = record { event = event.Report run calls stopped next; reply = report_reply stopped next cleared }
-
-abbrev pub claim_with : List ModuleCall → Units → Units → ℕ → Claimed
-claim_with before units run cleared = record { block = None; units = units; run = run; before = before; cleared = cleared }
-
--- the bits behind a run stay
-behind : (p : Processor) (number cleared : ℕ) (units run : Units) (made calls : List ModuleCall) (memory : Memory) (c : Claiming p number units run cleared made) → AcceptsUnits p.boot (calls_of p.boot p.entries) run calls → Stands p.boot (calls_of p.boot p.entries ++ calls) (table_of memory) (bits_in memory.bits) → (unit : ℕ) → run.first + run.count ≤ unit → bits_in memory.bits unit ≡ bit_after p.boot c.before unit
-behind p number cleared units run made calls memory c accepts stands unit above =
-    stands.bits unit ∙ bits-outside p.boot (calls_of p.boot p.entries) calls run unit accepts (in_range-past run.first run.count unit above) ∙ sym (c.at.stands.bits unit) ∙ c.later unit above
-
-next-is : (p : Processor) (number cleared : ℕ) (units run : Units) (made calls : List ModuleCall) (memory : Memory) (stopped : Option Page) (c : Claiming p number units run cleared made) → AcceptsUnits p.boot (calls_of p.boot p.entries) run calls → Stands p.boot (calls_of p.boot p.entries ++ calls) (table_of memory) (bits_in memory.bits) → next_by (bits_in memory.bits) units run stopped ≡ next_run p.boot (claim_with c.before units run cleared) stopped
-next-is p number cleared units run made calls memory None c accepts stands = first_run-same (bits_in memory.bits) (bit_after p.boot c.before) (run.first + run.count) (units.first + units.count) (behind p number cleared units run made calls memory c accepts stands)
-next-is p number cleared units run made calls memory (Some page) c accepts stands = refl
-
--- the processor with one more entry
-abbrev pub with_entry : Processor → Memory → ℕ → Step → Processor
-with_entry p memory number s = record { boot = p.boot; script = p.script; memory = memory; entries = p.entries ++ made_entry p.boot p.entries number s ∷ [] }
-
-abbrev pub AfterReport : Processor → Memory → ℕ → Units → Units → List ModuleCall → List ModuleCall → ℕ → ℕ → Option Page → Option Units → Type 0
-AfterReport p memory number units run before calls cleared more stopped next =
-    At p.boot p.script (p.entries ++ made_entry p.boot p.entries number (reported run calls stopped next more) ∷ []) (number_after number (report_reply stopped next more))
-    (goes_on p.boot (calls_of p.boot p.entries) calls (Some (claim_with before units run cleared)) stopped next) (table_of memory) (bits_in memory.bits)
-
-after-report : (p : Processor) (number cleared more : ℕ) (units run : Units) (made calls : List ModuleCall) (memory : Memory) (stopped : Option Page) (next : Option Units) (c : Claiming p number units run cleared made) → AcceptsUnits p.boot (calls_of p.boot p.entries) run calls → Stands p.boot (calls_of p.boot p.entries ++ calls) (table_of memory) (bits_in memory.bits) → more ≡ cleared + units_cleared p.boot (calls_of p.boot p.entries) (calls_of p.boot p.entries ++ calls) run → stopped ≡ stop_of calls → next ≡ next_by (bits_in memory.bits) units run stopped
-    → AfterReport p memory number units run c.before calls cleared more stopped next
-after-report p number cleared more units run made calls memory stopped next c accepts stands is_more is_stop is_next =
-    let claim = claim_with c.before units run cleared in
-    let base = at-report p.boot p.script p.entries number c.start c.len claim calls more (table_of p.memory) (table_of memory) (bits_in p.memory.bits) (bits_in memory.bits) c.at c.command c.fine accepts stands is_more in
-    let next_eq : next_run p.boot claim (stop_of calls) ≡ next = sym (is_next ∙ next-is p number cleared units run made calls memory stopped c accepts stands ∙ ap (next_run p.boot claim) is_stop) in
-    let P : Option Units → Type 0 = AfterReport p memory number units run c.before calls cleared more (stop_of calls) in
-    let Q : Option Page → Type 0 = λ s. AfterReport p memory number units run c.before calls cleared more s next in
-    subst Q (sym is_stop) (subst P next_eq base)
-
-ended_at : (p : Processor) (number cleared more : ℕ) (units run : Units) (calls before : List ModuleCall) (memory : Memory) (stopped : Option Page) → AfterReport p memory number units run before calls cleared more stopped None → At p.boot p.script (p.entries ++ made_entry p.boot p.entries number (reported run calls stopped None more) ∷ []) (number + 1) None (table_of memory) (bits_in memory.bits)
-ended_at p number cleared more units run calls before memory None at = at
-ended_at p number cleared more units run calls before memory (Some page) at = at
-
--- what the report leaves
-report_ends : (p : Processor) (number cleared more : ℕ) (units run : Units) (made now calls : List ModuleCall) (memory : Memory) (stopped : Option Page) (next : Option Units) (c : Claiming p number units run cleared made) → AcceptsUnits p.boot (calls_of p.boot p.entries) run calls → Stands p.boot (calls_of p.boot p.entries ++ calls) (table_of memory) (bits_in memory.bits) → KeptFor p.boot memory → more ≡ cleared + units_cleared p.boot (calls_of p.boot p.entries) (calls_of p.boot p.entries ++ calls) run → more ≤ cleared + run.count → next ≡ next_by (bits_in memory.bits) units run stopped → now ≡ made ++ calls
-    → AfterReport p memory number units run c.before calls cleared more stopped next → EndsOr (with_entry p memory number (reported run calls stopped next more)) number units more now next
-report_ends p number cleared more units run made now calls memory stopped None c accepts stands kept is_more few is_next is_now at = record {
-  at = ended_at p number cleared more units run calls c.before memory stopped at;
-  kept = kept;
-  calls = is_now ∙ ap (λ l. l ++ calls) c.calls ∙ sym (calls_of-push p.boot p.entries (made_entry p.boot p.entries number (reported run calls stopped None more)));
-}
-report_ends p number cleared more units run made now calls memory (Some page) (Some next) c accepts stands kept is_more few is_next is_now at = cc
-report_ends p number cleared more units run made now calls memory None (Some next) c accepts stands kept is_more few is_next is_now at =
-    let facts = first_run-facts (bits_in memory.bits) (run.first + run.count) (units.first + units.count) next (sym is_next) in
-    let same : number + 0 ≡ number = omega arith in
-    let P : ℕ → Type 0 = λ n. At p.boot p.script (p.entries ++ made_entry p.boot p.entries number (reported run calls None (Some next) more) ∷ []) n (Some (claim_with c.before units next more)) (table_of memory) (bits_in memory.bits) in
-    let Q : ℕ → Type 0 = λ n. At p.boot p.script (p.entries ++ made_entry p.boot p.entries number (reported run calls None (Some next) more) ∷ []) (number + 0) (Some (claim_with c.before units next n)) (table_of memory) (bits_in memory.bits) in
-    let low = facts.low in
-    let was = c.few in
+pub ready-refused : (p : Processor) (number stamp : ℕ) (c : Command) (refusal : Reply) → Ready p number → slice_get p.script number ≡ Some c → ((own : Own) → refusal_of p.boot own c ≡ Some refusal) → stamp ≡ length p.entries + 1 → Ready (with_entry p p.memory stamp number place.Own event.Own (Some refusal)) (number + 1)
+ready-refused p number stamp c refusal ready now is clock =
+    let P : ℕ → Type 0 = λ n. At p.boot p.script (p.entries ++ entry_with n number place.Own event.Own (Some refusal) ∷ []) p.memory.entries (number + 1) None in
     record {
-      before = c.before;
-      at = subst P same (subst Q (sym is_more) at);
-      kept = kept;
-      calls = is_now ∙ ap (λ l. l ++ calls) c.calls ∙ sym (calls_of-push p.boot p.entries (made_entry p.boot p.entries number (reported run calls None (Some next) more)));
-      some = facts.some;
-      within = facts.high;
-      set = facts.set;
-      later = λ unit above. behind p number cleared units run made calls memory c accepts stands unit (let a = facts.some in omega arith);
-      few = omega arith;
-      start = c.start;
-      len = c.len;
-      command = c.command;
-      fine = c.fine;
+      at = subst P (sym clock) (at-refused p.boot p.script p.entries p.memory.entries number c refusal ready.at now is);
+      same = ready.same;
+      booted = ready.booted;
     }
 
-pub report-goes : (p : Processor) (number cleared more : ℕ) (units run : Units) (made now calls : List ModuleCall) (memory : Memory) (stopped : Option Page) (next : Option Units) (c : Claiming p number units run cleared made) → AcceptsUnits p.boot (calls_of p.boot p.entries) run calls → Stands p.boot (calls_of p.boot p.entries ++ calls) (table_of memory) (bits_in memory.bits) → KeptFor p.boot memory → more ≡ cleared + units_cleared p.boot (calls_of p.boot p.entries) (calls_of p.boot p.entries ++ calls) run → more ≤ cleared + run.count → stopped ≡ stop_of calls → next ≡ next_by (bits_in memory.bits) units run stopped → now ≡ made ++ calls
-    → EndsOr (with_entry p memory number (reported run calls stopped next more)) number units more now next
-report-goes p number cleared more units run made now calls memory stopped next c accepts stands kept is_more few is_stop is_next is_now =
-    report_ends p number cleared more units run made now calls memory stopped next c accepts stands kept is_more few is_next is_now
-    (after-report p number cleared more units run made calls memory stopped next c accepts stands is_more is_stop is_next)
+-- ---- a query
 
--- the next run lies behind
-pub next-further : (set : ℕ → Bool) (units run : Units) (stopped : Option Page) (next : Option Units) → next ≡ next_by set units run stopped → IfSome next (λ n. run.first + run.count ≤ n.first)
-next-further set units run stopped None is = tt
-next-further set units run (Some page) (Some n) is = cc
-next-further set units run None (Some n) is = (first_run-facts set (run.first + run.count) (units.first + units.count) n (sym is)).low
-
--- ---- commands without a module call
-
-calls-kept : (p : Processor) (made : List ModuleCall) (number : ℕ) (s : Step) → calls_in s.event ≡ [] → made ≡ calls_of p.boot p.entries → made ≡ calls_of p.boot (p.entries ++ made_entry p.boot p.entries number s ∷ [])
-calls-kept p made number s none is =
-    is ∙ sym (calls_of-push p.boot p.entries (made_entry p.boot p.entries number s) ∙ ap (λ calls. calls_of p.boot p.entries ++ calls) none ∙ append-nil (calls_of p.boot p.entries))
-
-pub ready-refused : (p : Processor) (number : ℕ) (made : List ModuleCall) (c : Command) (refusal : Reply) → Ready p number made → slice_get p.script number ≡ Some c → ((own : Own) → refusal_of p.boot own c ≡ Some refusal) → Ready (with_entry p p.memory number (refused_step refusal)) (number + 1) made
-ready-refused p number made c refusal ready now is = record {
-  at = at-refused p.boot p.script p.entries number (table_of p.memory) (bits_in p.memory.bits) c refusal ready.at now is;
-  kept = ready.kept;
-  calls = calls-kept p made number (refused_step refusal) refl ready.calls;
-}
-
--- the guarded units are those of the boot
-none-if : (b : Bool) (from to size : ℕ) → cond b None (units_between size from (min to (0 * size))) ≡ None
-none-if true from to size = refl
-none-if false from to size =
-    let none : min to (0 * size) ≡ 0 = omega arith in
-    let no : nat_lt from 0 ≡ false = grind arith in
-    ap (units_between size from) none ∙ ap (λ b. cond b (Some (let u : Units = record { first = from / size; count = (0 + size - 1) / size - from / size } in u)) None) no
-
-guarded-empty : (size base start len : ℕ) → guarded size base 0 start len ≡ None
-unfolding guarded
-guarded-empty size base start len = none-if (nat_lt (start + len) base) (max start base - base) (with_guard size (start + len - base)) size
-
-pub guarded-same : (boot : Boot) (bits : Option Bits) (start len : ℕ) → SameBits boot bits → guarded_by bits start len ≡ guarded_units boot start len
-guarded-same boot None start len same = sym (ap (λ b. guarded boot.unit boot.base (unit_count b) start len) same ∙ guarded-empty boot.unit boot.base start len)
-guarded-same boot (Some b) start len same =
-    ap (λ u. guarded u b.base (unit_count b.bits) start len) same.0 ∙ ap (λ a. guarded boot.unit a (unit_count b.bits) start len) same.1
-    ∙ ap (λ n. guarded boot.unit boot.base (8 * n) start len) same.2
-
-found-same : (boot : Boot) (entries : List Entry) (set : ℕ → Bool) (units : Option Units) → ((unit : ℕ) → set unit ≡ bit_after boot (calls_of boot entries) unit) → any_in set units ≡ some_unaccepted boot entries units
-unfolding some_unaccepted
-found-same boot entries set None bits = refl
-found-same boot entries set (Some units) bits = any_such_same set (bit_after boot (calls_of boot entries)) units.first units.count (record { same = λ n l h. bits n })
-
-pub ready-query : (p : Processor) (number start len : ℕ) (made : List ModuleCall) (found : Bool) → Ready p number made → slice_get p.script number ≡ Some (command.Query start len) → memory_range_refusal start len ≡ None → found ≡ any_in (bits_in p.memory.bits) (guarded_by p.memory.bits start len) → Ready (with_entry p p.memory number (query_step found)) (number + 1) made
-ready-query p number start len made found ready now fine is = record {
-  at = at-query p.boot p.script p.entries number start len (table_of p.memory) (bits_in p.memory.bits) found ready.at now fine
-      (is ∙ ap (any_in (bits_in p.memory.bits)) (guarded-same p.boot p.memory.bits start len ready.kept.same) ∙ found-same p.boot p.entries (bits_in p.memory.bits) (guarded_units p.boot start len) ready.at.stands.bits);
-  kept = ready.kept;
-  calls = calls-kept p made number (query_step found) refl ready.calls;
+pub ready-query : (p : Processor) (number start len : ℕ) (memory : MemoryValue) (turned : Turn) (found : Bool) → Ready p number → slice_get p.script number ≡ Some (command.Query start len) → memory_range_refusal start len ≡ None → found ≡ some_unaccepted p.memory.boot p.memory.entries (guarded_units p.memory.boot start len)
+    → Appends p.memory memory (next_turn p number) turned (event.Asked found)
+    → Ready (with_entry p memory turned.clock number place.Memory (event.Asked found) (Some (reply.Query found))) (number + 1)
+ready-query p number start len memory turned found ready now fine is appends = record {
+  at = at-stepped p number (number + 1) None None memory turned (query_step found) (event.Asked found) (Some (reply.Query found)) ready.at refl refl refl appends
+      (at-query p.boot p.script p.entries p.memory.entries number start len found ready.at now fine (is ∙ ap (λ b. some_unaccepted b p.memory.entries (guarded_units b start len)) ready.same));
+  same = appends.boot ∙ ready.same;
+  booted = ready.booted;
 }
 
 -- ---- a claim
 
-run-same : (boot : Boot) (entries : List Entry) (set : ℕ → Bool) (units : Option Units) → ((unit : ℕ) → set unit ≡ bit_after boot (calls_of boot entries) unit) → option_and_then (λ (u : Units). first_run set u.first (u.first + u.count)) units ≡ run_of_claim boot entries units
-run-same boot entries set None bits = refl
-run-same boot entries set (Some u) bits = first_run-same set (bit_after boot (calls_of boot entries)) u.first (u.first + u.count) (λ unit low. bits unit)
+-- a claim of the only processor isn't blocked
+some-none : {A : Type 0} (o : Option A) (x : A) → o ≡ None → o ≡ Some x → ⊥
+some-none o x none some = let no : None ≡ Some x = sym none ∙ some in cc
 
-claimed_ends : (p : Processor) (number start len : ℕ) (made : List ModuleCall) (units run : Option Units) → Ready p number made → slice_get p.script number ≡ Some (command.Accept start len) → memory_range_refusal start len ≡ None → run ≡ option_and_then (λ (u : Units). first_run (bits_in p.memory.bits) u.first (u.first + u.count)) units
-    → At p.boot p.script (p.entries ++ made_entry p.boot p.entries number (claim_made units run) ∷ []) (number_after number (claim_reply run)) (opened None units run (calls_of p.boot p.entries)) (table_of p.memory) (bits_in p.memory.bits)
-    → ClaimedOr (with_entry p p.memory number (claim_made units run)) number made (both_or_none units run)
-claimed_ends p number start len made None None ready now fine is at = record { at = at; kept = ready.kept; calls = calls-kept p made number (claim_made None None) refl ready.calls }
-claimed_ends p number start len made (Some u) None ready now fine is at = record { at = at; kept = ready.kept; calls = calls-kept p made number (claim_made (Some u) None) refl ready.calls }
-claimed_ends p number start len made None (Some r) ready now fine is at = cc
-claimed_ends p number start len made (Some u) (Some r) ready now fine is at =
-    let facts = first_run-facts (bits_in p.memory.bits) u.first (u.first + u.count) r (sym is) in
-    let same : number + 0 ≡ number = omega arith in
-    let P : ℕ → Type 0 = λ n. At p.boot p.script (p.entries ++ made_entry p.boot p.entries number (claim_made (Some u) (Some r)) ∷ []) n (Some (claim_with (calls_of p.boot p.entries) u r 0)) (table_of p.memory) (bits_in p.memory.bits) in
-    let low = facts.low in
+not-blocked : (old new : MemoryValue) (turn : Turn) (units : Option Units) (begin : Begin) → in_the_way old.boot old.entries units ≡ None → BegunBy old new turn units begin → IsBlocked begin → ⊥
+not-blocked old new turn units Clear free begun blocked = blocked
+not-blocked old new turn units (IsClaimed span) free begun blocked = blocked
+not-blocked old new turn units (Blocked met) free begun blocked = some-none (in_the_way old.boot old.entries units) begun.cpu free begun.first
+
+pub never-blocked : (p : Processor) (number : ℕ) (memory : MemoryValue) (turn : Turn) (units : Option Units) (begin : Begin) → Ready p number → BegunBy p.memory memory turn units begin → IsBlocked begin → ⊥
+never-blocked p number memory turn units begin ready =
+    not-blocked p.memory memory turn units begin
+    (ap (λ b. in_the_way b p.memory.entries units) ready.same ∙ clear-way p.boot p.memory.entries units ready.at.cpus ready.at.claims)
+
+-- a span is out for its run in the processor's boot
+out-is : (boot : Boot) (memory : MemoryValue) (a b : Units) (span : Taken) → memory.boot ≡ boot → 0 < unit_pages boot → IsOutFor memory 0 a span → span.ticket.pages ≡ pages_of boot b → b ≡ a
+out-is boot memory a b span same some out is = same-units boot span.ticket.pages b a some is (out.has.pages ∙ ap (λ x. pages_of x a) same)
+
+-- the run that is told is the claim's
+claim-run : (p : Processor) (number : ℕ) (memory : MemoryValue) (units run : Option Units) (span : Option Taken) → Ready p number → memory.boot ≡ p.boot → BegunBy p.memory memory (next_turn p number) units (begun_with span) → IsRunOf p.boot span run → run ≡ run_of_claim p.boot p.memory.entries units
+claim-run p number memory units None None ready same begun is = sym (ap (λ b. run_of_claim b p.memory.entries units) (sym ready.same) ∙ begun.1)
+claim-run p number memory units (Some r) None ready same begun is = absurd is
+claim-run p number memory units None (Some s) ready same begun is = absurd is
+claim-run p number memory units (Some r) (Some s) ready same begun is =
+    ap Some (out-is p.boot memory begun.run r s same ready.booted.some begun.out is)
+    ∙ sym (ap (λ b. run_of_claim b p.memory.entries units) (sym ready.same) ∙ begun.first)
+
+-- what a run that is out is known of
+record OutRun (boot : Boot) (run : Units) (span : Taken) : Type 0 where
+  some : 0 < run.count
+  low : span.ticket.pages.first + span.ticket.pages.count ≤ 2 ^ 28
+  more : 0 < span.ticket.pages.count
+
+out-run : (boot : Boot) (calls : List ModuleCall) (from end : ℕ) (run : Units) (span : Taken) → IsBooted boot → IsRunIn (bit_after boot calls) from end run → span.ticket.pages ≡ pages_of boot run → OutRun boot run span
+out-run boot calls from end run span booted facts is =
+    let low = (run-low boot calls run booted facts.some facts.set).0 in
+    let more = pages-some boot run booted.some facts.some in
     record {
-      before = calls_of p.boot p.entries;
-      at = subst P same at;
-      kept = ready.kept;
-      calls = calls-kept p made number (claim_made (Some u) (Some r)) refl ready.calls;
       some = facts.some;
-      within = facts.high;
-      set = facts.set;
-      later = λ unit above. ready.at.stands.bits unit;
-      few = omega arith;
+      low = (let P : Pages → Type 0 = λ pages. pages.first + pages.count ≤ 2 ^ 28 in subst P (sym is) low);
+      more = (let P : Pages → Type 0 = λ pages. 0 < pages.count in subst P (sym is) more);
+    }
+
+claim-ends : (p : Processor) (number start len stamp : ℕ) (memory : MemoryValue) (e : Event) (r : Option Reply) (units run : Option Units) (span : Option Taken) → Ready p number → slice_get p.script number ≡ Some (command.Accept start len) → memory_range_refusal start len ≡ None → memory.boot ≡ p.boot
+    → BegunBy p.memory memory (next_turn p number) units (begun_with span) → IsRunOf p.boot span run → run ≡ run_of_claim p.boot p.memory.entries units
+    → At p.boot p.script (p.entries ++ entry_with stamp number place.Memory e r ∷ []) memory.entries (number_after number (claim_reply run)) (opened None units run (calls_of p.boot p.memory.entries))
+    → EndsOr (with_entry p memory stamp number place.Memory e r) number span
+claim-ends p number start len stamp memory e r None None None ready now fine same begun is_run is at = record { at = at; same = same; booted = ready.booted }
+claim-ends p number start len stamp memory e r (Some u) None None ready now fine same begun is_run is at = record { at = at; same = same; booted = ready.booted }
+claim-ends p number start len stamp memory e r units (Some run) None ready now fine same begun is_run is at = absurd is_run
+claim-ends p number start len stamp memory e r units None (Some s) ready now fine same begun is_run is at = absurd is_run
+claim-ends p number start len stamp memory e r None (Some run) (Some s) ready now fine same begun is_run is at = cc
+claim-ends p number start len stamp memory e r (Some u) (Some run) (Some s) ready now fine same begun is_run is at =
+    let calls = calls_of p.boot p.memory.entries in
+    let claim : Claimed = record { block = None; units = u; run = run; before = calls; cleared = 0 } in
+    let facts = out-run p.boot calls u.first (units_end u) run s ready.booted (first_run-facts (bit_after p.boot calls) u.first (units_end u) run (sym is)) is_run in
+    let zero_more : number + 0 ≡ number = omega arith in
+    let P : ℕ → Type 0 = λ n. At p.boot p.script (p.entries ++ entry_with stamp number place.Memory e r ∷ []) memory.entries n (Some claim) in
+    let Q : Units → Type 0 = λ x. IsOutFor memory 0 x s in
+    record {
+      claim = claim;
+      at = subst P zero_more at;
+      same = same;
+      booted = ready.booted;
+      out = subst Q (sym (out-is p.boot memory begun.run run s same ready.booted.some begun.out is_run)) begun.out;
+      some = facts.some;
+      low = facts.low;
+      more = facts.more;
       start = start;
       len = len;
       command = now;
       fine = fine;
     }
 
-pub ready-claim : (p : Processor) (number start len : ℕ) (made : List ModuleCall) (units run : Option Units) → Ready p number made → slice_get p.script number ≡ Some (command.Accept start len) → memory_range_refusal start len ≡ None → units ≡ guarded_by p.memory.bits start len → run ≡ option_and_then (λ (u : Units). first_run (bits_in p.memory.bits) u.first (u.first + u.count)) units
-    → ClaimedOr (with_entry p p.memory number (claim_made units run)) number made (both_or_none units run)
-ready-claim p number start len made units run ready now fine is_units is_run =
-    claimed_ends p number start len made units run ready now fine is_run
-    (at-claim p.boot p.script p.entries number start len (table_of p.memory) (bits_in p.memory.bits) units run ready.at now fine
-    (is_units ∙ guarded-same p.boot p.memory.bits start len ready.kept.same) (is_run ∙ run-same p.boot p.entries (bits_in p.memory.bits) units ready.at.stands.bits))
+pub ready-claim : (p : Processor) (number start len : ℕ) (memory : MemoryValue) (turned : Turn) (units run : Option Units) (span : Option Taken) → Ready p number → slice_get p.script number ≡ Some (command.Accept start len) → memory_range_refusal start len ≡ None → units ≡ guarded_units p.memory.boot start len
+    → BegunBy p.memory memory (next_turn p number) (guarded_units p.memory.boot start len) (begun_with span) → IsRunOf p.boot span run
+    → Appends p.memory memory (next_turn p number) turned (event.Claim None (guarded_units p.memory.boot start len) (run_of_claim p.memory.boot p.memory.entries (guarded_units p.memory.boot start len)))
+    → EndsOr (with_entry p memory turned.clock number place.Memory (event.Claim None units run) (claim_reply run)) number span
+ready-claim p number start len memory turned units run span ready now fine is_units begun is_run appends =
+    let same : memory.boot ≡ p.boot = appends.boot ∙ ready.same in
+    let B : Option Units → Type 0 = λ u. BegunBy p.memory memory (next_turn p number) u (begun_with span) in
+    let here = subst B (sym is_units) begun in
+    let is = claim-run p number memory units run span ready same here is_run in
+    let told : event.Claim None (guarded_units p.memory.boot start len) (run_of_claim p.memory.boot p.memory.entries (guarded_units p.memory.boot start len)) ≡ event.Claim None units run =
+    ap (λ u. event.Claim None u (run_of_claim p.memory.boot p.memory.entries u)) (sym is_units) ∙ ap (λ b. event.Claim None units (run_of_claim b p.memory.entries units)) ready.same ∙ ap (event.Claim None units) (sym is) in
+    let A : Event → Type 0 = Appends p.memory memory (next_turn p number) turned in
+    claim-ends p number start len turned.clock memory (event.Claim None units run) (claim_reply run) units run span ready now fine same here is_run is
+    (at-stepped p number (number_after number (claim_reply run)) None (opened None units run (calls_of p.boot p.memory.entries)) memory turned (claim_made units run) (event.Claim None units run) (claim_reply run) ready.at refl refl refl (subst A told appends)
+    (at-claim p.boot p.script p.entries p.memory.entries number start len units run ready.at now fine (is_units ∙ ap (λ b. guarded_units b start len) ready.same) is))
+
+-- ---- a report
+
+-- what a report tells of the claim
+record Told (boot : Boot) (entries : List Entry) (claim : Claimed) (calls : List ModuleCall) (next : Option Units) (r : Option Reply) : Type 0 where
+  behind : next ≡ next_run boot claim (stop_of calls)
+  answer : r ≡ report_reply (stop_of calls) (next_run boot claim (stop_of calls)) (cleared_by boot entries claim calls)
+
+goes-reply : (boot : Boot) (claim : Claimed) (stop : Option Page) (next : Units) (cleared : ℕ) → next_run boot claim stop ≡ Some next → None ≡ report_reply stop (next_run boot claim stop) cleared
+goes-reply boot claim None next cleared is = ap (λ n. report_reply None n cleared) (sym is)
+goes-reply boot claim (Some page) next cleared is = cc
+
+stop-next : (boot : Boot) (claim : Claimed) (stop : Option Page) → stop ≢ None → None ≡ next_run boot claim stop
+stop-next boot claim None is = absurd (is refl)
+stop-next boot claim (Some page) is = refl
+
+stop-reply : (boot : Boot) (claim : Claimed) (stop : Option Page) (cleared : ℕ) → stop ≢ None → Some reply.Module ≡ report_reply stop (next_run boot claim stop) cleared
+stop-reply boot claim None cleared is = absurd (is refl)
+stop-reply boot claim (Some page) cleared is = refl
+
+close-reply : (boot : Boot) (claim : Claimed) (stop : Option Page) (cleared count : ℕ) → stop ≡ None → next_run boot claim stop ≡ None → count ≡ cleared → Some (reply.Count count) ≡ report_reply stop (next_run boot claim stop) cleared
+close-reply boot claim None cleared count is none same = ap (λ n. Some (reply.Count n)) same ∙ ap (λ n. report_reply None n cleared) (sym none)
+close-reply boot claim (Some page) cleared count is none same = cc
+
+told-by : (boot : Boot) (old new : MemoryValue) (turn : Turn) (claim : Claimed) (calls : List ModuleCall) (reported : Reported) (next : Option Units) → old.boot ≡ boot → new.boot ≡ boot → 0 < unit_pages boot → turn.cpu.0 ≡ 0 → ReportedBy old new turn claim calls reported → IsRunOf boot (span_in reported) next → Told boot old.entries claim calls next (reply_in reported)
+told-by boot old new turn claim calls (Next span) None same same' some cpu by is = absurd is
+told-by boot old new turn claim calls (Next span) (Some next) same same' some cpu by is =
+    let there : next_run boot claim (stop_of calls) ≡ Some by.run = ap (λ b. next_run b claim (stop_of calls)) (sym same) ∙ by.next in
+    let O : ℕ → Type 0 = λ c. IsOutFor new c by.run span in
+    let run = out-is boot new by.run next span same' some (subst O cpu by.out) is in
+    record { behind = ap Some run ∙ sym there; answer = goes-reply boot claim (stop_of calls) by.run (cleared_by boot old.entries claim calls) there }
+told-by boot old new turn claim calls (Closed count) (Some next) same same' some cpu by is = absurd is
+told-by boot old new turn claim calls (Closed count) None same same' some cpu by is =
+    let none : next_run boot claim (stop_of calls) ≡ None = ap (λ b. next_run b claim (stop_of calls)) (sym same) ∙ by.1 in
+    record { behind = sym none; answer = close-reply boot claim (stop_of calls) (cleared_by boot old.entries claim calls) count by.0 none (by.2 ∙ ap (λ b. cleared_by b old.entries claim calls) same) }
+told-by boot old new turn claim calls Stopped (Some next) same same' some cpu by is = absurd is
+told-by boot old new turn claim calls Stopped None same same' some cpu by is =
+    record { behind = stop-next boot claim (stop_of calls) by; answer = stop-reply boot claim (stop_of calls) (cleared_by boot old.entries claim calls) by }
+
+closes : (boot : Boot) (before calls : List ModuleCall) (claim : Claimed) (stop : Option Page) (next : Option Units) → next ≡ None → goes_on boot before calls (Some claim) stop next ≡ None
+closes boot before calls claim None None is = refl
+closes boot before calls claim None (Some run) is = cc
+closes boot before calls claim (Some page) next is = refl
+
+abbrev next_claim : Boot → List ModuleCall → List ModuleCall → Claimed → Units → Claimed
+next_claim boot before calls claim run = record claim { run = run; cleared = claim.cleared + units_cleared boot before (before ++ calls) claim.run }
+
+continues : (boot : Boot) (before calls : List ModuleCall) (claim : Claimed) (stop : Option Page) (run : Units) → next_run boot claim stop ≡ Some run → goes_on boot before calls (Some claim) stop (next_run boot claim stop) ≡ Some (next_claim boot before calls claim run)
+continues boot before calls claim None run is = ap (goes_on boot before calls (Some claim) None) is
+continues boot before calls claim (Some page) run is = cc
+
+-- a claim's next run is a run of bits that were set at the claim
+next-facts : (boot : Boot) (claim : Claimed) (stop : Option Page) (run : Units) → next_run boot claim stop ≡ Some run → IsRunIn (bit_after boot claim.before) (units_end claim.run) (units_end claim.units) run
+next-facts boot claim None run is = first_run-facts (bit_after boot claim.before) (units_end claim.run) (units_end claim.units) run is
+next-facts boot claim (Some page) run is = cc
+
+-- the claim goes on with what is told, or its command ends
+report-ends : (p : Processor) (number stamp : ℕ) (memory : MemoryValue) (span : Taken) (e : Event) (calls : List ModuleCall) (reported : Reported) (next : Option Units) (c : Claiming p number span) → memory.boot ≡ p.boot
+    → ReportedBy p.memory memory (next_turn p number) c.claim calls reported → IsRunOf p.boot (span_in reported) next → Told p.boot p.memory.entries c.claim calls next (reply_in reported)
+    → At p.boot p.script (p.entries ++ entry_with stamp number place.Memory e (reply_in reported) ∷ []) memory.entries (number_after number (reply_in reported)) (goes_on p.boot (calls_of p.boot p.memory.entries) calls (Some c.claim) (stop_of calls) (next_run p.boot c.claim (stop_of calls)))
+    → EndsOr (with_entry p memory stamp number place.Memory e (reply_in reported)) number (span_in reported)
+report-ends p number stamp memory span e calls (Closed count) (Some next) c same by is told at = absurd is
+report-ends p number stamp memory span e calls Stopped (Some next) c same by is told at = absurd is
+report-ends p number stamp memory span e calls (Next s) None c same by is told at = absurd is
+report-ends p number stamp memory span e calls (Closed count) None c same by is told at =
+    let P : Option Claimed → Type 0 = λ x. At p.boot p.script (p.entries ++ entry_with stamp number place.Memory e (Some (reply.Count count)) ∷ []) memory.entries (number + 1) x in
+    record { at = subst P (closes p.boot (calls_of p.boot p.memory.entries) calls c.claim (stop_of calls) (next_run p.boot c.claim (stop_of calls)) (sym told.behind)) at; same = same; booted = c.booted }
+report-ends p number stamp memory span e calls Stopped None c same by is told at =
+    let P : Option Claimed → Type 0 = λ x. At p.boot p.script (p.entries ++ entry_with stamp number place.Memory e (Some reply.Module) ∷ []) memory.entries (number + 1) x in
+    record { at = subst P (closes p.boot (calls_of p.boot p.memory.entries) calls c.claim (stop_of calls) (next_run p.boot c.claim (stop_of calls)) (sym told.behind)) at; same = same; booted = c.booted }
+report-ends p number stamp memory span e calls (Next s) (Some next) c same by is told at =
+    let before = calls_of p.boot p.memory.entries in
+    let claim = next_claim p.boot before calls c.claim next in
+    let facts = out-run p.boot c.claim.before (units_end c.claim.run) (units_end c.claim.units) next s c.booted (next-facts p.boot c.claim (stop_of calls) next (sym told.behind)) is in
+    let zero_more : number + 0 ≡ number = omega arith in
+    let P : ℕ → Type 0 = λ n. At p.boot p.script (p.entries ++ entry_with stamp number place.Memory e None ∷ []) memory.entries n (Some claim) in
+    let C : Option Claimed → Type 0 = λ x. At p.boot p.script (p.entries ++ entry_with stamp number place.Memory e None ∷ []) memory.entries (number + 0) x in
+    let Q : Units → Type 0 = λ x. IsOutFor memory 0 x s in
+    record {
+      claim = claim;
+      at = subst P zero_more (subst C (continues p.boot before calls c.claim (stop_of calls) next (sym told.behind)) at);
+      same = same;
+      booted = c.booted;
+      out = subst Q (sym (out-is p.boot memory by.run next s same c.booted.some by.out is)) by.out;
+      some = facts.some;
+      low = facts.low;
+      more = facts.more;
+      start = c.start;
+      len = c.len;
+      command = c.command;
+      fine = c.fine;
+    }
+
+pub claiming-report : (p : Processor) (number : ℕ) (memory : MemoryValue) (turned : Turn) (span worked : Taken) (run : Units) (calls copy : List ModuleCall) (stopped : Option Page) (reported : Reported) (next : Option Units) (c : Claiming p number span)
+    → span.ticket.pages ≡ pages_of p.boot run → Accepts p.boot.hosts span worked calls → copy ≡ calls → stopped ≡ stop_of calls
+    → ReportedBy p.memory memory (next_turn p number) c.claim calls reported → IsRunOf p.boot (span_in reported) next
+    → Appends p.memory memory (next_turn p number) turned (report_event p.memory.boot c.claim calls)
+    → EndsOr (with_entry p memory turned.clock number place.Memory (event.Report run copy stopped next) (reply_in reported)) number (span_in reported)
+claiming-report p number memory turned span worked run calls copy stopped reported next c is_run accepts is_copy is_stop by is_next appends =
+    let same : memory.boot ≡ p.boot = appends.boot ∙ c.same in
+    let before = calls_of p.boot p.memory.entries in
+    let told = told-by p.boot p.memory memory (next_turn p number) c.claim calls reported next c.same same c.booted.some refl by is_next in
+    let run_is : run ≡ c.claim.run = out-is p.boot p.memory c.claim.run run span c.same c.booted.some c.out is_run in
+    let s = report_made p.boot c.claim calls (cleared_by p.boot p.memory.entries c.claim calls) in
+    let told_event : event.Report run copy stopped next ≡ s.event =
+    ap (λ x. event.Report x copy stopped next) run_is ∙ ap (λ x. event.Report c.claim.run x stopped next) is_copy ∙ ap (λ x. event.Report c.claim.run calls x next) is_stop ∙ ap (event.Report c.claim.run calls (stop_of calls)) told.behind in
+    let A : Boot → Type 0 = λ b. Appends p.memory memory (next_turn p number) turned (report_event b c.claim calls) in
+    let H : Boot → Type 0 = λ b. AcceptsUnits b (calls_of b p.memory.entries) c.claim.run calls in
+    let accepted : AcceptsUnits p.boot before c.claim.run calls = subst H c.same (span-accepts p.memory.boot (calls_of p.memory.boot p.memory.entries) c.claim.run span worked calls c.out.has (let X : Boot → Type 0 = λ b. Accepts b.hosts span worked calls in subst X (sym c.same) accepts)) in
+    let then = goes_on p.boot before calls (Some c.claim) (stop_of calls) (next_run p.boot c.claim (stop_of calls)) in
+    let N : Option Reply → Type 0 = λ r. At p.boot p.script (p.entries ++ entry_with turned.clock number place.Memory (event.Report run copy stopped next) (reply_in reported) ∷ []) memory.entries (number_after number r) then in
+    report-ends p number turned.clock memory span (event.Report run copy stopped next) calls reported next c same by is_next told
+    (subst N (sym told.answer)
+    (at-stepped p number (number_after number s.reply) (Some c.claim) then memory turned s (event.Report run copy stopped next) (reply_in reported) c.at refl told_event told.answer (subst A c.same appends)
+    (at-report p.boot p.script p.entries p.memory.entries number c.start c.len c.claim calls (cleared_by p.boot p.memory.entries c.claim calls) c.at c.command c.fine accepted refl)))
+
+-- a processor with an entry that is told in other words
+pub report-added : (p q : Processor) (number stamp : ℕ) (memory : MemoryValue) (e : Event) (r : Option Reply) (reported : Reported) (next : Option Taken) → q ≡ with_entry p memory stamp number place.Memory e r → r ≡ reply_in reported → next ≡ span_in reported
+    → EndsOr (with_entry p memory stamp number place.Memory e (reply_in reported)) number (span_in reported) → EndsOr q number next
+report-added p q number stamp memory e r reported next is is_reply is_next goes =
+    let P : Processor → Type 0 = λ x. EndsOr x number next in
+    let R : Option Reply → Type 0 = λ x. EndsOr (with_entry p memory stamp number place.Memory e x) number next in
+    let S : Option Taken → Type 0 = λ o. EndsOr (with_entry p memory stamp number place.Memory e (reply_in reported)) number o in
+    subst P (sym is) (subst R (sym is_reply) (subst S (sym is_next) goes))
+
+-- a report's calls are made after those before it
+pub calls-reported : (p q : Processor) (number stamp : ℕ) (memory : MemoryValue) (turn turned : Turn) (e : Event) (r : Option Reply) (claim : Claimed) (calls : List ModuleCall) → q ≡ with_entry p memory stamp number place.Memory e r → Appends p.memory memory turn turned (report_event p.memory.boot claim calls) → calls_by_now q ≡ calls_by_now p ++ calls
+calls-reported p q number stamp memory turn turned e r claim calls is appends =
+    ap calls_by_now is ∙ ap (calls_of p.boot) appends.entries ∙ calls_of-push p.boot p.memory.entries (bare_entry turn (last_stamp p.memory.entries) (report_event p.memory.boot claim calls))
+
+-- the claim that is open, in the memory's words
+pub claim-has : (p : Processor) (number : ℕ) (span : Taken) (turn : Turn) (c : Claiming p number span) → turn ≡ next_turn p number → claim_of p.memory.boot p.memory.entries turn.cpu.0 ≡ Some c.claim
+claim-has p number span turn c is = ap (λ (t : Turn). claim_of p.memory.boot p.memory.entries t.cpu.0) is ∙ ap (λ b. claim_of b p.memory.entries 0) c.same ∙ c.at.claims
+
+-- the pages that are out next are those of units, and begin behind the run
+pub report-whole : (boot : Boot) (old new : MemoryValue) (turn : Turn) (claim : Claimed) (calls : List ModuleCall) (reported : Reported) → new.boot ≡ boot → ReportedBy old new turn claim calls reported → IfSome (span_in reported) (λ s. (units : Units) × (s.ticket.pages ≡ pages_of boot units))
+report-whole boot old new turn claim calls (Next s) same by = (by.run, by.out.has.pages ∙ ap (λ b. pages_of b by.run) same)
+report-whole boot old new turn claim calls (Closed count) same by = tt
+report-whole boot old new turn claim calls Stopped same by = tt
+
+pub report-further : (boot : Boot) (old new : MemoryValue) (turn : Turn) (claim : Claimed) (calls : List ModuleCall) (reported : Reported) (span : Taken) → old.boot ≡ boot → new.boot ≡ boot → 0 < unit_pages boot → 0 < claim.run.count → span.ticket.pages ≡ pages_of boot claim.run → ReportedBy old new turn claim calls reported → IfSome (span_in reported) (λ s. span.ticket.pages.first < s.ticket.pages.first)
+report-further boot old new turn claim calls (Closed count) span same same' size some is by = tt
+report-further boot old new turn claim calls Stopped span same same' size some is by = tt
+report-further boot old new turn claim calls (Next s) span same same' size some is by =
+    let there : next_run boot claim (stop_of calls) ≡ Some by.run = ap (λ b. next_run b claim (stop_of calls)) (sym same) ∙ by.next in
+    let facts = next-facts boot claim (stop_of calls) by.run there in
+    let pages : s.ticket.pages ≡ pages_of boot by.run = by.out.has.pages ∙ ap (λ b. pages_of b by.run) same' in
+    let less = pages-behind boot claim.run by.run size some facts.low in
+    let a = ap (λ (x : Pages). x.first) is in
+    let b = ap (λ (x : Pages). x.first) pages in
+    omega (arith, less, a, b)

@@ -1,62 +1,95 @@
-use Rattle.std.proofs.Common.{◌≡◌, ℕ, ◌+◌, ◌≤◌, Bool, true, false, cond, nat_lt, Option, None, Some, List, [], ◌∷◌, length, refl, sym, ◌∙◌, ap, subst, inl, inr, arith}
-use Rattle.std.specs.Prelude.{◌==◌, All, codes}
-use Rattle.std.specs.Str.{bytes_eq}
-use Rattle.std.specs.List.{slice_split}
+use Rattle.std.proofs.Common.{◌≡◌, ℕ, ◌+◌, ◌<◌, ◌≤◌, Bool, true, false, cond, List, [], ◌∷◌, ◌++◌, length, Result, Ok, Err, refl, sym, ◌∙◌, ap, subst, inl, inr, arith}
+use Rattle.std.specs.Prelude.{◌&&◌, ◌==◌, All, IfOk, nat_le, nat_lt, sum_by}
+use Rattle.std.specs.List.{list_all, slice_split}
 use Rattle.std.proofs.lemmas.Bool.{cases_Bool}
 use Rattle.std.proofs.lemmas.Bool.Decides.{nat_tests}
+use Rattle.std.proofs.lemmas.List.{length_push}
 use Rattle.std.proofs.lemmas.List.Elements.{All-nil, All-cons}
 use Rattle.event_core.specs.declared.command.Command.{Command}
-use Rattle.event_core.specs.declared.command.Command.TheVariants.{Accept, Query}
-use Rattle.guest_script.specs.Number.{number_of}
-use Rattle.guest_script.specs.First.{first_at, first_of_words, first_of, before, first_parts, first_script_of}
-use Rattle.guest_run.specs.First.{IsFirstCommand}
+use Rattle.event_core.specs.declared.command.Command.TheVariants as command
+use Rattle.guest_script.specs.declared.fault.ScriptFault.{ScriptFault}
+use Rattle.guest_script.specs.declared.fault.ScriptFault.TheVariants as fault
+use Rattle.guest_script.specs.Commands.{command_of}
+use Rattle.guest_script.specs.Script.{named_bytes, at_line, followed_by, line_words, with_command, with_words, with_line, with_lines, script_of}
+use Rattle.guest_run.specs.First.{IsFirstCommand, is_first}
 
--- A script that was read has commands that can be run, and at most 2,048.
+-- A script that was read has at most 2,048 commands.
 
-command_fits : (a b : Bool) (start len : ℕ) (c : Command) → cond a (Some (Accept start len)) (cond b (Some (Query start len)) None) ≡ Some c → IsFirstCommand c
-command_fits true b start len c h = let e : Accept start len ≡ c = cc in subst IsFirstCommand e tt
-command_fits false true start len c h = let e : Query start len ≡ c = cc in subst IsFirstCommand e tt
-command_fits false false start len c h = let no : None ≡ Some c = h in cc
+none : {A : Type 0} (f : ScriptFault) (x : List Command) → Err f ≡ Ok x → A
+none f x h = let no : Err f ≡ Ok x = h in cc
 
-at_fits : (verb : List ℕ) (start len : Option ℕ) (c : Command) → first_at verb start len ≡ Some c → IsFirstCommand c
-at_fits verb (Some start) (Some len) c h = command_fits (bytes_eq verb (codes "accept")) (bytes_eq verb (codes "query")) start len c h
-at_fits verb (Some start) None c h = let no : None ≡ Some c = h in cc
-at_fits verb None len c h = let no : None ≡ Some c = h in cc
+chosen : (b : Bool) (script : List Command) (c : Command) (longer : List Command) → cond b (Err fault.TooManyBytes) (Ok (script ++ c ∷ [])) ≡ Ok longer → longer ≡ script ++ c ∷ []
+chosen true script c longer h = none fault.TooManyBytes longer h
+chosen false script c longer h = let e : script ++ c ∷ [] ≡ longer = cc in sym e
 
-words_fit : (words : List (List ℕ)) (c : Command) → first_of_words words ≡ Some c → IsFirstCommand c
-words_fit [] c h = let no : None ≡ Some c = h in cc
-words_fit (verb ∷ []) c h = let no : None ≡ Some c = h in cc
-words_fit (verb ∷ start ∷ []) c h = let no : None ≡ Some c = h in cc
-words_fit (verb ∷ start ∷ len ∷ []) c h = at_fits verb (number_of start) (number_of len) c h
-words_fit (verb ∷ start ∷ len ∷ more ∷ others) c h = let no : None ≡ Some c = h in cc
+command_few : (read : Result Command ScriptFault) (script longer : List Command) → length script < 2048 → followed_by read (with_command script) ≡ Ok longer → length longer ≤ 2048
+command_few (Err f) script longer low h = none f longer h
+command_few (Ok c) script longer low h =
+    let e = chosen (nat_lt 4194304 (sum_by named_bytes script + named_bytes c)) script c longer h in
+    let n = length_push script c in
+    let same : length longer ≡ length (script ++ c ∷ []) = ap (λ (s : List Command). length s) e in
+    omega (arith, n, same, low)
 
--- the commands can be run, and are one fewer than the parts
-abbrev Fit : ℕ → List Command → Type 0
-Fit parts script = (length script + 1 ≡ parts) × All IsFirstCommand script
-
-before_fits : (command : Option Command) (rest : Option (List Command)) (parts : ℕ) (script : List Command) → ((c : Command) → command ≡ Some c → IsFirstCommand c) → ((others : List Command) → rest ≡ Some others → Fit parts others) → before command rest ≡ Some script → Fit (parts + 1) script
-before_fits None rest parts script one more h = let no : None ≡ Some script = h in cc
-before_fits (Some c) None parts script one more h = let no : None ≡ Some script = h in cc
-before_fits (Some c) (Some others) parts script one more h =
-    let e : c ∷ others ≡ script = cc in
-    let fit = more others refl in
-    subst (Fit (parts + 1)) e (omega (arith, fit.0), All-cons IsFirstCommand c others (one c refl) fit.1)
-
-parts_fit : (parts : List (List ℕ)) (script : List Command) → first_parts parts ≡ Some script → Fit (length parts) script
-parts_fit [] script h = let no : None ≡ Some script = h in cc
-parts_fit ([] ∷ []) script h = let e : [] ≡ script = cc in subst (Fit 1) e (omega arith, All-nil IsFirstCommand)
-parts_fit ((b ∷ bs) ∷ []) script h = let no : None ≡ Some script = h in cc
-parts_fit (line ∷ part ∷ parts) script h =
-    let fit = before_fits (first_of line) (first_parts (part ∷ parts)) (length (part ∷ parts)) script (λ c is. words_fit (slice_split (λ b. b == 32) line) c is) (λ others is. parts_fit (part ∷ parts) others is) h in
-    (omega (arith, fit.0), fit.1)
-
-pub script_fits : (bytes : List ℕ) (script : List Command) → first_script_of bytes ≡ Some script → (length script ≤ 2048) × All IsFirstCommand script
-script_fits bytes script h =
-    let parts = slice_split (λ b. b == 10) bytes in
-    elim (cases_Bool (nat_lt 2049 (length parts))) [
-      | inl t ↦ (let no : None ≡ Some script = sym (ap (λ b. cond b None (first_parts parts)) t) ∙ h in cc)
+words_few : (number : ℕ) (script longer : List Command) (words : List (List ℕ)) → length script ≤ 2048 → with_words number script words ≡ Ok longer → length longer ≤ 2048
+unfolding with_words
+words_few number script longer [] few h = let e : script ≡ longer = cc in subst (λ (s : List Command). length s ≤ 2048) e few
+words_few number script longer (first ∷ words) few h =
+    elim (cases_Bool (nat_le 2048 (length script))) [
+      | inl t ↦ none fault.TooManyLines longer (sym (ap (λ b. cond b (Err fault.TooManyLines) (followed_by (at_line number (command_of first words)) (with_command script))) t) ∙ h)
       | inr f ↦
-          let fit = parts_fit parts script (sym (ap (λ b. cond b None (first_parts parts)) f) ∙ h) in
-          let few : length parts ≤ 2049 = grind (arith, nat_tests) in
-          (omega (arith, fit.0, few), fit.1)
+          let low : length script < 2048 = grind (arith, nat_tests, f, few) in
+          command_few (at_line number (command_of first words)) script longer low (sym (ap (λ b. cond b (Err fault.TooManyLines) (followed_by (at_line number (command_of first words)) (with_command script))) f) ∙ h)
     ]
+
+read_few : (read : Result (List (List ℕ)) ScriptFault) (number : ℕ) (script longer : List Command) → length script ≤ 2048 → followed_by read (with_words number script) ≡ Ok longer → length longer ≤ 2048
+read_few (Err f) number script longer few h = none f longer h
+read_few (Ok words) number script longer few h = words_few number script longer words few h
+
+line_few : (number : ℕ) (script longer : List Command) (line : List ℕ) → length script ≤ 2048 → with_line number script line ≡ Ok longer → length longer ≤ 2048
+unfolding with_line
+line_few number script longer line few h = read_few (at_line number (line_words line)) number script longer few h
+
+then_few : (read : Result (List Command) ScriptFault) (number : ℕ) (longer : List Command) (lines : List (List ℕ)) → ((next : List Command) → read ≡ Ok next → length next ≤ 2048) → ((next : List Command) → length next ≤ 2048 → with_lines number next lines ≡ Ok longer → length longer ≤ 2048) → followed_by read (λ next. with_lines number next lines) ≡ Ok longer → length longer ≤ 2048
+then_few (Err f) number longer lines few rest h = none f longer h
+then_few (Ok next) number longer lines few rest h = rest next (few next refl) h
+
+lines_few : (number : ℕ) (script longer : List Command) (lines : List (List ℕ)) → length script ≤ 2048 → with_lines number script lines ≡ Ok longer → length longer ≤ 2048
+lines_few number script longer [] few h = let e : script ≡ longer = cc in subst (λ (s : List Command). length s ≤ 2048) e few
+lines_few number script longer (line ∷ lines) few h =
+    then_few (with_line number script line) (number + 1) longer lines (λ next is. line_few number script next line few is) (λ next low is. lines_few (number + 1) next longer lines low is) h
+
+pub script_few : {E : Type 0} (bytes : List ℕ) (script : List Command) (result : Result (List Command) E) → script_of bytes ≡ Ok script → IfOk result (λ r. r ≡ script) → IfOk result (λ r. length r ≤ 2048)
+script_few bytes script (Ok r) h same = subst (λ (s : List Command). length s ≤ 2048) (sym same) (lines_few 1 [] script (slice_split (λ b. b == 10) bytes) (omega arith) h)
+script_few bytes script (Err e) h same = tt
+
+-- A script whose commands pass the test.
+
+one_first : (c : Command) → is_first c ≡ true → IsFirstCommand c
+one_first (command.Accept start len) h = tt
+one_first (command.Query start len) h = tt
+one_first (command.Alloc name order) h = cc
+one_first (command.Free name) h = cc
+one_first (command.Read name off len) h = cc
+one_first (command.Write name off hex) h = cc
+one_first (command.Fill name off len byte) h = cc
+one_first (command.Load name off) h = cc
+one_first (command.Share name) h = cc
+one_first (command.Private name) h = cc
+one_first (command.Map mapping name off len direction mask) h = cc
+one_first (command.SyncDev mapping off len) h = cc
+one_first (command.SyncCpu mapping off len) h = cc
+one_first (command.Unmap mapping skip) h = cc
+one_first (command.DRead mapping off len) h = cc
+one_first (command.DWrite mapping off hex) h = cc
+one_first (command.HostRead off len) h = cc
+one_first (command.HostWrite off hex) h = cc
+
+both : (a b : Bool) → (a && b) ≡ true → (a ≡ true) × (b ≡ true)
+both true b h = (refl, h)
+both false b h = cc
+
+pub all_first : (script : List Command) → list_all is_first script ≡ true → All IsFirstCommand script
+all_first [] h = All-nil IsFirstCommand
+all_first (c ∷ script) h =
+    let two = both (is_first c) (list_all is_first script) h in
+    All-cons IsFirstCommand c script (one_first c two.0) (all_first script two.1)

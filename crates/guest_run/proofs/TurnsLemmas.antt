@@ -1,15 +1,11 @@
-use Rattle.std.proofs.Common.{◌≡◌, ◌≢◌, ℕ, zero, suc, ◌+◌, ◌-◌, ◌*◌, ◌^◌, ◌<◌, ◌≤◌, Bool, true, false, ◌&&◌, Option, None, Some, List, [], ◌∷◌, ◌++◌, refl, sym, ◌∙◌, ap, subst, inl, inr, arith, cond, length, append_assoc, append-nil, All}
-use Rattle.std.specs.Prelude.{slice_get, slice_index, is_none, find, nat_lt, ◌/◌, ◌%◌, ◌||◌, ◌==◌}
-use Rattle.std.specs.Int.{bit_at}
+use Rattle.std.proofs.Common.{◌≡◌, ℕ, zero, suc, ◌+◌, ◌<◌, Bool, true, false, Option, None, Some, List, [], ◌∷◌, ◌++◌, refl, sym, ◌∙◌, ap, subst, arith, cond, length, All}
+use Rattle.std.specs.Prelude.{slice_get, is_none, find}
 use Rattle.std.proofs.lemmas.List.Sorted.{IsPermutation-refl}
 use Rattle.std.specs.Option.{option_and_then, option_map}
-use Rattle.std.specs.List.{AllByRecursion, AllPairs, list_any}
-use Rattle.std.proofs.lemmas.Bool.{cases_Bool}
+use Rattle.std.specs.List.{AllByRecursion, AllPairs}
 use Rattle.std.proofs.lemmas.List.Elements.{All-nil, All-cons, recursion_from_All}
 use Rattle.std.proofs.lemmas.List.Kept.{AllPairs-cons}
 use Rattle.guest_base.specs.Ranges.{in_range}
-use Rattle.guest_base.specs.Search.{any_such}
-use Rattle.guest_base.proofs.SearchLemmas.{any_such_is}
 use Rattle.guest_base.specs.declared.memory.PageRun.{PageRun}
 use Rattle.guest_base.specs.declared.memory.PageState.{PageState}
 use Rattle.guest_base.specs.declared.memory.Units.{Units}
@@ -22,27 +18,32 @@ use Rattle.event_core.specs.declared.event.Event.TheVariants as event
 use Rattle.event_core.specs.declared.entry.Place.TheVariants as place
 use Rattle.event_core.specs.declared.entry.Entry.{Entry}
 use Rattle.event_core.specs.declared.reply.Reply.{Reply}
-use Rattle.event_core.specs.Calls.{calls_in}
+use Rattle.event_core.specs.Calls.{calls_in, calls_of}
+use Rattle.event_core.specs.declared.boot.Recorded.{Recorded}
+use Rattle.event_core.specs.RangedScripts.{IsRanged, RangedScripts}
+use Rattle.event_core.proofs.SoundLemmas.{legal-apart, apart-start}
 use Rattle.event_core.specs.Runs.{AreMaximalRuns, GoesBefore, run_holds, run_end, state_in as state_by}
-use Rattle.event_core.specs.Units.{bit_of, bit_after, guarded_units, unit_first, unit_pages}
+use Rattle.event_core.specs.Units.{guarded_units}
 use Rattle.event_core.specs.Claims.{Claimed, claim_of}
 use Rattle.event_core.specs.Moved.{Moved, entries_of, made_by}
 use Rattle.event_core.specs.Holdings.{Own}
 use Rattle.event_core.specs.Own.{replied, own_of}
 use Rattle.event_core.specs.Refusals.{refusal_of}
-use Rattle.event_core.specs.MemoryRows.{is_pending, run_of_claim}
+use Rattle.event_core.specs.MemoryRows.{page_state, run_of_claim}
 use Rattle.event_core.specs.Next.{Step, next_step, step_of, unrefused_step, refused_or, accept_step, claim_reply}
 use Rattle.event_core.specs.Legal.{LegalAfter, Whole, with_bytes, with_moved, at_place}
 use Rattle.event_core.specs.Turns.{TakenIn, is_idle, Turned, rounds_of}
 use Rattle.page_module.specs.States.{state_in}
 use Rattle.page_module.specs.Tables.{IsMaximal, Rising, Differing}
-use Rattle.unaccepted_bitmap.specs.BitmapValue.{Bits}
-use Rattle.guest_boot.specs.Worlds.{BitsAre, BitsMeanPending, RamIsLow}
+use Rattle.memory_core.specs.Answers.{NoneOpen}
+use Rattle.memory_core.specs.Booted.{IsBooted}
+use Rattle.memory_core.specs.Value.{MemoryValue}
 use Rattle.guest_run.specs.First.{IsFirstCommand}
 use Rattle.guest_run.specs.Running.{IsMine, At}
-use Rattle.guest_run.specs.Standing.{Stands}
-use Rattle.guest_run.specs.Kept.{bits_in, SameBits}
-use Rattle.guest_run.proofs.OneProcessor.{clear-way, mine-all, running-start, moved-entries}
+use Rattle.guest_run.specs.Ready.{Ready, calls_by_now}
+use Rattle.guest_run.specs.Recordings.{History}
+use Rattle.guest_run.specs.declared.processor.Processor.{Processor}
+use Rattle.guest_run.proofs.OneProcessor.{clear-way, mine-all, running-start, moved-entries, running-placed, there-claim, there-calls}
 
 -- ---- no turn is idle
 
@@ -95,8 +96,8 @@ mine-of : (boot : Boot) (moved : List Moved) → AllByRecursion (IsMine boot) mo
 mine-of boot [] all = tt
 mine-of boot (m ∷ moved) all = (all.0.0, mine-of boot moved all.1)
 
-pub turned-one : (boot : Boot) (script : List Command) (entries : List Entry) (number : ℕ) (claim : Option Claimed) (table : ℕ → Option PageState) (set : ℕ → Bool) → AllByRecursion IsFirstCommand script → At boot script entries number claim table set → Turned boot (script ∷ []) [] entries
-turned-one boot script entries number claim table set first at =
+pub turned-one : (boot : Boot) (script : List Command) (entries : List Entry) (memory : List Entry) (number : ℕ) (claim : Option Claimed) → AllByRecursion IsFirstCommand script → At boot script entries memory number claim → Turned boot (script ∷ []) [] entries
+turned-one boot script entries memory number claim first at =
     let P : List Entry → Type 0 = AllByRecursion (λ (e : Entry). e.cpu.0 ≡ 0) in
     record {
       taken = entries;
@@ -110,13 +111,72 @@ all_replied boot script entries number done is zero s found = (let same : script
 all_replied boot script entries number done is (suc cpu) s found = cc
 
 -- every command has its reply
-pub whole-one : (boot : Boot) (script : List Command) (entries : List Entry) (number : ℕ) (claim : Option Claimed) (table : ℕ → Option PageState) (set : ℕ → Bool) → At boot script entries number claim table set → number ≡ length script → Whole boot (script ∷ []) entries
-whole-one boot script entries number claim table set at is = record {
+pub whole-one : (boot : Boot) (script : List Command) (entries : List Entry) (memory : List Entry) (number : ℕ) (claim : Option Claimed) → At boot script entries memory number claim → number ≡ length script → Whole boot (script ∷ []) entries
+whole-one boot script entries memory number claim at is = record {
   legal = at.running.legal;
   all = all_replied boot script entries number (ap replied (mine-all boot (with_moved boot (script ∷ []) entries) at.running.history.each) ∙ at.present) is;
 }
 
 -- ---- the start
+
+no_claim : (boot : Boot) → claim_of boot [] 0 ≡ None
+unfolding claim_of
+no_claim boot = refl
+
+at-first : (boot : Boot) (script : List Command) → boot.cpus ≡ 1 → At boot script [] [] 0 None
+at-first boot script one = record {
+  running = running-start boot (script ∷ []);
+  present = refl;
+  there = refl;
+  claims = no_claim boot;
+  cpus = one;
+}
+
+-- a processor with no entry, whose memory has none
+pub ready-first : (boot : Boot) (script : List Command) (memory : MemoryValue) (entries : List Entry) → memory.boot ≡ boot → memory.entries ≡ [] → entries ≡ [] → IsBooted boot → boot.cpus ≡ 1 → Ready (let p : Processor = record { boot = boot; script = script; memory = memory; entries = entries } in p) 0
+ready-first boot script memory entries same none empty booted one =
+    let P : List Entry → Type 0 = λ m. At boot script [] m 0 None in
+    let Q : List Entry → Type 0 = λ es. At boot script es memory.entries 0 None in
+    record { at = subst Q (sym empty) (subst P (sym none) (at-first boot script one)); same = same; booted = booted }
+
+-- ---- the end
+
+ranged-one : (script : List Command) → All IsFirstCommand script → RangedScripts (script ∷ [])
+ranged-one script first = (recursion_from_All IsRanged script first, tt)
+
+none-of : (boot : Boot) (memory : List Entry) (cpu : ℕ) (found : Option Claimed) → ((claim : Claimed) → found ≡ Some claim → cpu < 1) → claim_of boot memory cpu ≡ found → claim_of boot memory 0 ≡ None → claim_of boot memory cpu ≡ None
+none-of boot memory cpu None low is none = is
+none-of boot memory cpu (Some claim) low is none = let zero_is : cpu ≡ 0 = (let l = low claim refl in omega (arith, l)) in ap (claim_of boot memory) zero_is ∙ none
+
+-- no claim is open with any processor
+pub none-open : (p : Processor) (number : ℕ) → All IsFirstCommand p.script → Ready p number → NoneOpen p.memory
+none-open p number first ready cpu =
+    let at = ready.at in
+    let apart = legal-apart p.boot (p.script ∷ []) [] p.entries (ranged-one p.script first) (sym at.cpus) tt (apart-start p.boot) at.running.legal in
+    let placed = running-placed p.boot (p.script ∷ []) p.entries (length p.entries) at.running in
+    let there : claim_of p.boot p.memory.entries cpu ≡ claim_of p.boot p.entries cpu = ap (λ m. claim_of p.boot m cpu) at.there ∙ there-claim p.boot (p.script ∷ []) p.entries cpu placed in
+    ap (λ b. claim_of b p.memory.entries cpu) ready.same
+    ∙ none-of p.boot p.memory.entries cpu (claim_of p.boot p.entries cpu) (λ claim is. let l = apart.low cpu claim is in let one = at.cpus in omega (arith, l, one)) there at.claims
+
+-- all entries report the calls that the memory's report
+pub calls-are : (p : Processor) (number : ℕ) → Ready p number → calls_of p.boot p.entries ≡ calls_by_now p
+calls-are p number ready = sym (ap (calls_of p.boot) ready.at.there ∙ there-calls p.boot (p.script ∷ []) p.entries (running-placed p.boot (p.script ∷ []) p.entries (length p.entries) ready.at.running))
+
+-- the states of the page table are those after all entries
+pub states-are : (p : Processor) (number : ℕ) (table : List PageRun) → Ready p number → ((page : ℕ) → state_in table page ≡ page_state p.memory.boot (calls_of p.memory.boot p.memory.entries) page) → (page : ℕ) → state_in table page ≡ page_state p.boot (calls_of p.boot p.entries) page
+states-are p number table ready states page =
+    states page ∙ ap (λ b. page_state b (calls_of b p.memory.entries) page) ready.same ∙ ap (λ calls. page_state p.boot calls page) (sym (calls-are p number ready))
+
+pub history-of : (p : Processor) (scripts : List (List Command)) → All IsFirstCommand p.script → Ready p (length p.script) → scripts ≡ p.script ∷ [] → History [] (let r : Recorded = record { boot = p.boot; scripts = scripts; entries = p.entries } in r)
+history-of p scripts first ready is =
+    let W : List (List Command) → Type 0 = λ s. Whole p.boot s p.entries in
+    let T : List (List Command) → Type 0 = λ s. Turned p.boot s [] p.entries in
+    record {
+      whole = subst W (sym is) (whole-one p.boot p.script p.entries p.memory.entries (length p.script) None ready.at refl);
+      turned = subst T (sym is) (turned-one p.boot p.script p.entries p.memory.entries (length p.script) None (recursion_from_All IsFirstCommand p.script first) ready.at);
+    }
+
+-- ---- runs of pages, in the words of the page table and of the history
 
 same-found : (b : Bool) (run : PageRun) (rest : Option PageState) (others : Option PageRun) → rest ≡ option_map (λ (r : PageRun). r.state) others → cond b (Some run.state) rest ≡ option_map (λ (r : PageRun). r.state) (cond b (Some run) others)
 same-found true run rest others h = refl
@@ -125,57 +185,6 @@ same-found false run rest others h = h
 pub state-same : (runs : List PageRun) (page : ℕ) → state_in runs page ≡ state_by runs page
 state-same [] page = refl
 state-same (run ∷ runs) page = same-found (in_range run.pages.first run.pages.count page) run (state_in runs page) (find (run_holds page) runs) (state-same runs page)
-
-marked-any : (first count : ℕ) → 0 < count → any_such (λ page. true) first count ≡ true
-marked-any first count some = any_such_is (λ page. true) first count first (omega arith) (omega arith) refl
-
-pub first-bit : (boot : Boot) (unit : ℕ) → 0 < unit_pages boot → bit_after boot [] unit ≡ bit_of boot.bits unit
-unfolding bit_after
-first-bit boot unit some = elim (cases_Bool (bit_of boot.bits unit)) [
-  | inl t ↦ ap (λ b. elim b as (λ _. Bool) [ true ↦ any_such (λ page. true) (unit_first boot unit) (unit_pages boot) | false ↦ false ]) t ∙ marked-any (unit_first boot unit) (unit_pages boot) some ∙ sym t
-  | inr f ↦ ap (λ b. elim b as (λ _. Bool) [ true ↦ any_such (λ page. true) (unit_first boot unit) (unit_pages boot) | false ↦ false ]) f ∙ sym f
-]
-
-no-bit : (unit : ℕ) → bit_of [] unit ≡ false
-no-bit unit = (let out : nat_lt unit (8 * 0) ≡ false = grind arith in ap (λ b. b && (bit_at (slice_index [] (unit / 8)) (unit % 8) == 1)) out)
-
-bits-first : (boot : Boot) (bits : Option Bits) (unit : ℕ) → BitsAre boot bits → bits_in bits unit ≡ bit_of boot.bits unit
-bits-first boot None unit same = sym (ap (λ b. bit_of b unit) same ∙ no-bit unit)
-bits-first boot (Some b) unit same = ap (λ bytes. bit_of bytes unit) same.2
-
-pub stands-first : (boot : Boot) (runs : List PageRun) (bits : Option Bits) → ((page : ℕ) → state_in runs page ≡ state_in boot.ram page) → BitsAre boot bits → BitsMeanPending boot → 0 < unit_pages boot → Stands boot [] (state_in runs) (bits_in bits)
-stands-first boot runs bits states same pending some = record {
-  states = λ page. states page ∙ state-same boot.ram page;
-  bits = λ unit. bits-first boot bits unit same ∙ sym (first-bit boot unit some);
-  marks = λ unit page set inside. sym (ap is_pending (pending unit page set inside));
-}
-
-no_claim : (boot : Boot) → claim_of boot [] 0 ≡ None
-unfolding claim_of
-no_claim boot = refl
-
-pub at-first : (boot : Boot) (script : List Command) (runs : List PageRun) (bits : Option Bits) → boot.cpus ≡ 1 → boot.calls ≡ [] → Stands boot [] (state_in runs) (bits_in bits) → At boot script [] 0 None (state_in runs) (bits_in bits)
-at-first boot script runs bits one none stands =
-    let P : List ModuleCall → Type 0 = λ calls. Stands boot calls (state_in runs) (bits_in bits) in
-    record {
-      running = running-start boot (script ∷ []);
-      present = refl;
-      claims = no_claim boot;
-      stands = subst P (sym (append-nil boot.calls ∙ none)) stands;
-      cpus = one;
-    }
-
--- ---- runs of pages, in the words of the page table and of the history
-
-pairs-tail : (run : PageRun) (runs : List PageRun) → AllPairs GoesBefore (run ∷ runs) → AllPairs GoesBefore runs
-pairs-tail run runs pairs i j d lt high = pairs (suc i) (suc j) d (omega arith) (omega arith)
-
-behind-first : (run : PageRun) (runs : List PageRun) → AllPairs GoesBefore (run ∷ runs) → AllByRecursion (λ (r : PageRun). run_end run ≤ r.pages.first) runs
-behind-first run runs pairs = recursion_from_All (λ (r : PageRun). run_end run ≤ r.pages.first) runs (λ k d low. (pairs 0 (suc k) d (omega arith) (omega arith)).ends)
-
-rising-of : (from : ℕ) (runs : List PageRun) → AllByRecursion (λ (run : PageRun). (0 < run.pages.count) × (run_end run ≤ 2 ^ 28)) runs → AllPairs GoesBefore runs → AllByRecursion (λ (run : PageRun). from ≤ run.pages.first) runs → Rising from runs
-rising-of from [] all pairs low = tt
-rising-of from (run ∷ runs) all pairs low = (low.0, all.0.0, all.0.1, rising-of (run_end run) runs all.1 (pairs-tail run runs pairs) (behind-first run runs pairs))
 
 far-behind : (run : PageRun) (from : ℕ) (runs : List PageRun) → run_end run < from → Rising from runs → All (GoesBefore run) runs
 far-behind run from [] far rising = All-nil (GoesBefore run)
@@ -211,43 +220,3 @@ maximal-of states table runs maximal same = record {
   some = some-of runs 0 maximal.rising;
   rise = pairs-of runs 0 maximal.rising maximal.differing;
 }
-
--- the runs of a boot rise, below 2^28
-low_run : (boot : Boot) (run : PageRun) → RamIsLow boot → 0 < run.pages.count → state_by boot.ram (run_end run - 1) ≢ None → run_end run ≤ 2 ^ 28
-low_run boot run low some is = (let below = low (run_end run - 1) is in omega arith)
-
-held : (b : Bool) (run : PageRun) (others : Option PageRun) (rest : Bool) → (b || rest) ≡ true → (rest ≡ true → option_map (λ (r : PageRun). r.state) others ≢ None) → option_map (λ (r : PageRun). r.state) (cond b (Some run) others) ≢ None
-held true run others rest some later = λ no. cc
-held false run others rest some later = later some
-
--- a page of one of the runs has a state
-has-state : (runs : List PageRun) (page : ℕ) → (some : list_any (run_holds page) runs ≡ true) → state_by runs page ≢ None
-has-state [] page some = cc
-has-state (run ∷ runs) page some = held (run_holds page run) run (find (run_holds page) runs) (list_any (run_holds page) runs) some (has-state runs page)
-
-or_true : (b : Bool) → (b || true) ≡ true
-or_true true = refl
-or_true false = refl
-
-any-behind : (p : PageRun → Bool) (before : List PageRun) (run : PageRun) (runs : List PageRun) → p run ≡ true → list_any p (before ++ run ∷ runs) ≡ true
-any-behind p [] run runs here = ap (λ b. b || list_any p runs) here
-any-behind p (x ∷ before) run runs here = ap (λ b. p x || b) (any-behind p before run runs here) ∙ or_true (p x)
-
-ends-low : (boot : Boot) (runs before : List PageRun) → RamIsLow boot → boot.ram ≡ before ++ runs → AllByRecursion (λ (run : PageRun). 0 < run.pages.count) runs → AllByRecursion (λ (run : PageRun). (0 < run.pages.count) × (run_end run ≤ 2 ^ 28)) runs
-ends-low boot [] before low is some = tt
-ends-low boot (run ∷ runs) before low is some =
-    let last : ℕ = run_end run - 1 in
-    let here : run_holds last run ≡ true = (let s = some.0 in grind arith) in
-    let any : list_any (run_holds last) boot.ram ≡ true = ap (list_any (run_holds last)) is ∙ any-behind (run_holds last) before run runs here in
-    ((some.0, low_run boot run low some.0 (has-state boot.ram last any)), ends-low boot runs (before ++ run ∷ []) low (is ∙ sym (append_assoc before (run ∷ []) runs)) some.1)
-
-from_zero : (runs : List PageRun) → AllByRecursion (λ (run : PageRun). 0 ≤ run.pages.first) runs
-from_zero [] = tt
-from_zero (run ∷ runs) = (omega arith, from_zero runs)
-
-pub rising-boot : (boot : Boot) → RamIsLow boot → AreMaximalRuns (state_by boot.ram) boot.ram → Rising 0 boot.ram
-rising-boot boot low maximal = rising-of 0 boot.ram (ends-low boot boot.ram [] low refl (recursion_from_All (λ (run : PageRun). 0 < run.pages.count) boot.ram maximal.some)) maximal.rise (from_zero boot.ram)
-
-pub same-first : (boot : Boot) (bits : Option Bits) → BitsAre boot bits → SameBits boot bits
-same-first boot None same = same
-same-first boot (Some b) same = (same.0, same.1, ap length same.2)

@@ -1,7 +1,6 @@
-pub mod Standing
-pub mod Kept
 pub mod Running
 pub mod Ready
+pub mod Answered
 pub mod First
 pub mod RangedCommand
 pub mod Words
@@ -9,5 +8,8 @@ pub mod Views
 pub mod Replies
 pub mod Bounds
 pub mod Stops
+pub mod Causes
+pub mod Endings
+pub mod Stopping
 pub mod Recordings
 pub mod Ends

@@ -1,5 +1,5 @@
 use Rattle.std.specs.Prelude.{ℕ, List, [], ◌∷◌, Option, Some, Ok, false, ◌≡◌}
-use Rattle.std.specs.Option.{option_map}
+use Rattle.event_core.specs.declared.command.Command.{Command}
 use Rattle.event_core.specs.declared.boot.Boot.{Boot}
 use Rattle.event_core.specs.declared.boot.Recorded.{Recorded}
 use Rattle.event_core.specs.Boot.{BootRight}
@@ -8,8 +8,8 @@ use Rattle.event_core.specs.Turns.{Turned}
 use Rattle.event_core.specs.Printed.{Printed}
 use Rattle.efi_map.specs.declared.map.GuestMap.{GuestMap}
 use Rattle.efi_map.specs.MapFile.{map_of}
-use Rattle.guest_io.specs.Writing.{appended}
-use Rattle.guest_script.specs.First.{first_script_of}
+use Rattle.guest_io.specs.Writing.{appended, AppendsPrefix}
+use Rattle.guest_script.specs.Script.{script_of}
 use Rattle.guest_run.specs.Words.{Named, named_by}
 
 -- What is promised of a recorded run.
@@ -20,7 +20,7 @@ BootedFrom bytes boot = (map : GuestMap) × (map_of bytes ≡ Ok map) × BootRig
 
 -- the scripts are the one script that the bytes hold
 abbrev pub ScriptedBy : List ℕ → Recorded → Type 0
-ScriptedBy bytes r = option_map (λ script. script ∷ []) (first_script_of bytes) ≡ Some r.scripts
+ScriptedBy bytes r = (script : List Command) × (script_of bytes ≡ Ok script) × (r.scripts ≡ script ∷ [])
 
 -- The run is of the files that are named, wherever it is told what they hold: the order file is empty, boot is that of the map,
 -- and the scripts are those of the script file.
@@ -41,3 +41,7 @@ pub record History (order : List ℕ) (r : Recorded) : Type 0 where
 -- where it is told what was written, it is what was written before and then a printed text of the run, without the order
 abbrev pub PrintedAfter : Recorded → Option (List ℕ) → Option (List ℕ) → Type 0
 PrintedAfter r before after = (text : List ℕ) × Printed r.boot r.entries false text × (after ≡ appended before text)
+
+-- where it is told what was written, it is what was written before and then a prefix of such a text
+abbrev pub CutAfter : Recorded → Option (List ℕ) → Option (List ℕ) → Type 0
+CutAfter r before after = (text : List ℕ) × Printed r.boot r.entries false text × AppendsPrefix before text after

@@ -1,16 +1,14 @@
-use Rattle.std.specs.Prelude.{ℕ, List, [], ◌∷◌, Option, Bool, ◌≡◌, ◌+◌, ◌≤◌, length}
+use Rattle.std.specs.Prelude.{ℕ, List, [], ◌∷◌, Option, ◌≡◌, ◌+◌, ◌≤◌, length}
 use Rattle.std.specs.List.{AllByRecursion}
-use Rattle.guest_base.specs.declared.memory.PageState.{PageState}
 use Rattle.event_core.specs.declared.boot.Boot.{Boot}
 use Rattle.event_core.specs.declared.command.Command.{Command}
 use Rattle.event_core.specs.declared.entry.Entry.{Entry}
-use Rattle.event_core.specs.Calls.{calls_of}
 use Rattle.event_core.specs.Claims.{Claimed, claim_of}
-use Rattle.event_core.specs.Moved.{Moved}
+use Rattle.event_core.specs.Moved.{Moved, entries_of}
 use Rattle.event_core.specs.Own.{replied}
 use Rattle.event_core.specs.Next.{Step}
-use Rattle.event_core.specs.Legal.{Legal, with_moved, place_of, greatest_stamp}
-use Rattle.guest_run.specs.Standing.{Stands}
+use Rattle.event_core.specs.declared.entry.Place.TheVariants.{Memory}
+use Rattle.event_core.specs.Legal.{Legal, with_moved, at_place, place_of, greatest_stamp}
 
 -- How far the run of one processor, whose number is 0, has come.
 
@@ -33,12 +31,17 @@ pub record Running (boot : Boot) (scripts : List (List Command)) (entries : List
   pub legal : Legal boot scripts entries
   pub history : History boot (with_moved boot scripts entries) clock
 
--- A run of one processor between two of its events: its history, the number of its present command, its claim, and what is kept.
-pub record At (boot : Boot) (script : List Command) (entries : List Entry) (number : ℕ) (claim : Option Claimed) (table : ℕ → Option PageState) (set : ℕ → Bool) : Type 0 where
+-- the bare entries of the memory in a history
+abbrev pub memory_of : Boot → List (List Command) → List Entry → List Entry
+memory_of boot scripts entries = entries_of (at_place Memory (with_moved boot scripts entries))
+
+-- A run of one processor between two of its events: its history, the memory's entries in it, the number of its present command, and
+-- its open claim.
+pub record At (boot : Boot) (script : List Command) (entries memory : List Entry) (number : ℕ) (claim : Option Claimed) : Type 0 where
   pub running : Running boot (script ∷ []) entries (length entries)
   pub present : replied (with_moved boot (script ∷ []) entries) ≡ number
-  pub claims : claim_of boot entries 0 ≡ claim
-  pub stands : Stands boot (calls_of boot entries) table set
+  pub there : memory ≡ memory_of boot (script ∷ []) entries
+  pub claims : claim_of boot memory 0 ≡ claim
   pub cpus : boot.cpus ≡ 1
 
 -- the entry that is added

@@ -1,24 +1,21 @@
-use Rattle.std.specs.Prelude.{ℕ, List, [], ◌++◌, codes, Option, Some, ◌≡◌}
+use Rattle.std.specs.Prelude.{ℕ, List, [], ◌++◌, codes}
 use Rattle.std.specs.Fmt.{decimal}
 use Rattle.efi_map.specs.declared.fault.MapFault.{MapFault}
 use Rattle.efi_map.specs.declared.fault.MapFault.TheVariants as fault
+use Rattle.guest_script.specs.declared.fault.ScriptFault.{ScriptFault}
+use Rattle.guest_script.specs.declared.fault.ScriptFault.TheVariants as script
+use Rattle.guest_script.specs.declared.fault.Why.{Why}
+use Rattle.guest_script.specs.declared.fault.Why.TheVariants as why
 use Rattle.event_core.specs.Texts.{line}
 use Rattle.guest_run.specs.declared.stop.Cause.{Cause}
-use Rattle.guest_run.specs.declared.stop.Cause.TheVariants.{TooLong, Later, OfMap}
+use Rattle.guest_run.specs.declared.stop.Cause.TheVariants.{TooLong, Later, OfMap, OfScript}
 use Rattle.guest_run.specs.declared.stop.InputFile.{InputFile}
 use Rattle.guest_run.specs.declared.stop.InputFile.TheVariants.{Order, Map, Script}
 use Rattle.guest_run.specs.declared.stop.Stop.{Stop}
-use Rattle.guest_run.specs.declared.stop.Stop.TheVariants.{Refused, NotRead, NoMemory}
-use Rattle.guest_io.specs.Writing.{appended}
-use Rattle.guest_run.specs.Words.{Named, named_by}
+use Rattle.guest_run.specs.declared.stop.Stop.TheVariants.{Refused, NotRead, Module, NoMemory}
+use Rattle.guest_run.specs.Words.{Named}
 
--- Why a run ends before its text (own rule).
-
--- a file couldn't be read
-abbrev pub IsNotRead : Stop → Type 0
-IsNotRead (NotRead file) = Unit {0}
-IsNotRead (Refused file cause) = ⊥
-IsNotRead NoMemory = ⊥
+-- The lines and statuses of a run that ends before its text (own rule).
 
 -- the name of a file
 abbrev pub name_of : Named → InputFile → List ℕ
@@ -41,11 +38,28 @@ map_fault_text (fault.BadHost number) = codes "host " ++ decimal number
 map_fault_text (fault.Trailing place) = codes "trailing " ++ decimal place
 map_fault_text fault.NoMemory = codes "memory"
 
+-- what is wrong with a line of a script file
+abbrev pub why_text : Why → List ℕ
+why_text why.Word = codes "word"
+why_text why.Number = codes "number"
+why_text why.Hex = codes "hex"
+why_text why.Arity = codes "arity"
+why_text why.TooLong = codes "long"
+why_text why.NotUtf8 = codes "utf8"
+
+-- what is wrong with a script file
+abbrev pub script_fault_text : ScriptFault → List ℕ
+script_fault_text (script.Line number w) = codes "line " ++ (decimal number ++ (codes " " ++ why_text w))
+script_fault_text script.TooManyLines = codes "too many lines"
+script_fault_text script.TooManyBytes = codes "too many bytes"
+script_fault_text script.NoMemory = codes "memory"
+
 -- why a file is refused
 abbrev pub cause_text : Cause → List ℕ
 cause_text TooLong = codes "too long"
 cause_text Later = codes "later"
 cause_text (OfMap f) = map_fault_text f
+cause_text (OfScript f) = script_fault_text f
 
 -- the line of a refused file
 abbrev pub refused_line : List ℕ → Cause → List ℕ
@@ -59,22 +73,20 @@ not_read_line name = line (codes "failed: read " ++ name)
 abbrev pub words_line : List ℕ
 words_line = line (codes "refused: words")
 
+-- the line of a boot that stopped
+abbrev pub boot_line : List ℕ
+boot_line = line (codes "failed: boot")
+
 -- the line of a stop; there is none for want of memory
 abbrev pub stop_line : Named → Stop → List ℕ
 stop_line named (Refused file cause) = refused_line (name_of named file) cause
 stop_line named (NotRead file) = not_read_line (name_of named file)
+stop_line named Module = boot_line
 stop_line named NoMemory = []
 
 -- the status of a stop
 abbrev pub status_of : Stop → ℕ
 status_of (Refused file cause) = 3
 status_of (NotRead file) = 4
+status_of Module = 7
 status_of NoMemory = 6
-
--- the status is that of a stop, and what was written is what was written before and then its line
-abbrev pub StoppedAs : Named → ℕ → Option (List ℕ) → Option (List ℕ) → Type 0
-StoppedAs named status before after = (stop : Stop) × (status ≡ status_of stop) × (after ≡ appended before (stop_line named stop))
-
--- the same, at a file that the words name
-abbrev pub StoppedAt : List (List ℕ) → ℕ → Option (List ℕ) → Option (List ℕ) → Type 0
-StoppedAt words status before after = (named : Named) × (named_by words ≡ Some named) × StoppedAs named status before after

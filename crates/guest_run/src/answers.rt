@@ -1,10 +1,14 @@
 //! What commands are answered.
 ghost use Rattle.std.specs.Prelude.{◌≡◌};
 ghost use Rattle.event_core.specs.Refusals.{memory_range_refusal};
-ghost use Rattle.event_core.specs.Next.{claim_reply, report_reply};
+ghost use Rattle.event_core.specs.Next.{claim_reply};
+ghost use Rattle.memory_core.specs.Answers.{IsBlocked};
+ghost use Rattle.guest_run.specs.Answered.{begun_with, reply_in, span_in};
 
 use event_core::Reply;
-use guest_base::{Page, Units};
+use guest_base::Units;
+use memory_core::{Begin, Reported};
+use page_module::Span;
 
 /// The refusal of a range of memory: no byte, or an end above 2^40.
 pub(crate) fn range_refusal(start: u64, len: u64) -> Option<Reply>
@@ -29,17 +33,27 @@ pub(crate) fn reply_of_claim(run: Option<Units>) -> Option<Reply>
     }
 }
 
-/// The reply of a report: it ends its acceptance where it stopped or no run is left.
-pub(crate) fn reply_of_report(
-    stopped: Option<Page>,
-    next: Option<Units>,
-    cleared: u64,
-) -> Option<Reply>
-    ensures { result ≡ report_reply stopped next cleared }
+/// The pages of a claim's first run, where there is one.
+pub(crate) fn span_of_claim(begin: Begin) -> Option<Span>
+    requires { ¬ IsBlocked begin }
+    ensures { begin ≡ begun_with result }
 {
-    match (stopped, next) {
-        (Some(_), _) => Some(Reply::Module),
-        (None, None) => Some(Reply::Count(cleared)),
-        (None, Some(_)) => None,
+    match begin {
+        Begin::Clear => None,
+        Begin::Claimed(span) => Some(span),
+        Begin::Blocked(_) => unreachable!(),
+    }
+}
+
+/// The pages of the run with which a claim goes on after a report, where there is one, and else the reply of the acceptance: it
+/// stopped, or so many units were cleared.
+pub(crate) fn after_report(reported: Reported) -> (Option<Span>, Option<Reply>)
+    ensures next { result.0 ≡ span_in reported }
+    ensures reply { result.1 ≡ reply_in reported }
+{
+    match reported {
+        Reported::Next(span) => (Some(span), None),
+        Reported::Closed(cleared) => (None, Some(Reply::Count(cleared))),
+        Reported::Stopped => (None, Some(Reply::Module)),
     }
 }

@@ -1,20 +1,23 @@
 //! The files of a run.
-ghost use Rattle.std.specs.Prelude.{◌≡◌, ◌≤◌, ℕ, List, [], Some, Ok, length, All, IfOk, IfErr, OnOk};
-ghost use Rattle.guest_base.specs.Counts.{Rose};
+ghost use Rattle.std.specs.Prelude.{◌≡◌, ◌≤◌, [], ◌∷◌, ◌++◌, ℕ, true, false, List, None, Some, Ok, length, All, IfOk, IfErr, OnOk};
+ghost use Rattle.std.specs.List.{list_all};
 ghost use Rattle.event_core.specs.Map.{MapRules};
 ghost use Rattle.efi_map.specs.MapFile.{map_of};
-ghost use Rattle.guest_script.specs.First.{first_script_of};
-ghost use Rattle.guest_run.specs.First.{IsFirstCommand};
-ghost use Rattle.guest_run.specs.Stops.{IsNotRead};
+ghost use Rattle.guest_script.specs.Script.{script_of};
+ghost use Rattle.guest_run.specs.Causes.{limit_of, content_cause, IsGood};
+ghost use Rattle.guest_run.specs.Endings.{names_to, AreGood, IsMapOf};
+ghost use Rattle.guest_run.specs.First.{is_first, IsFirstCommand};
+ghost use Rattle.guest_run.specs.Stopping.{AsksOne, Finds, Stopped, StopsAt};
+ghost use Rattle.guest_run.specs.Stops.{name_of};
+ghost use Rattle.guest_run.specs.Views.{seen};
 
 use crate::stop::{Cause, InputFile, Stop};
 use crate::words::Names;
 use efi_map::{GuestMap, MapFault, read_map};
-use event_core::Script;
+use event_core::{Command, Script};
 use guest_base::Bytes;
-use guest_base::limits::{MAX_MAP_BYTES, MAX_ORDER_BYTES, MAX_SCRIPT_BYTES};
 use guest_io::{Files, ReadFault};
-use guest_script::{FirstScriptFault, read_first};
+use guest_script::{ScriptFault, read_script};
 use std::alloc::Global;
 
 /// What a run is told to do.
@@ -24,20 +27,22 @@ pub(crate) struct Input {
     pub(crate) script: Script,
 }
 
-/// All bytes of a file.
+/// All bytes of a file, which are within its limit.
 fn read_file<F: Files>(
     alloc: Global,
     files: &mut F,
+    names: &Names<'_>,
     file: InputFile,
-    name: &str,
-    max: u64,
 ) -> Result<Bytes, Stop>
-    ensures whole { IfOk result (λ bytes. (content : List ℕ) → F.holds files.old name.now ≡ Some content → bytes ≡ content) }
-    ensures not_read { IfErr result (λ stop. IsNotRead stop → Rose (F.faults files.old) (F.faults files.new)) }
+    ensures whole { IfOk result (λ bytes. (content : List ℕ) → F.holds files.old (name_of (seen names.now) file) ≡ Some content → bytes ≡ content) }
+    ensures within { IfOk result (λ bytes. length bytes ≤ limit_of file) }
+    ensures stop { IfErr result (λ stop. StopsAt (F.holds files.old) (seen names.now) file (F.faults files.old) (F.faults files.new) stop) }
+    ensures asked { OnOk result (F.asked files.new ≡ F.asked files.old ++ name_of (seen names.now) file ∷ []) }
+    ensures asks { IfErr result (λ stop. AsksOne (name_of (seen names.now) file) (F.asked files.old) (F.asked files.new) stop) }
     ensures same_files { F.holds files.new ≡ F.holds files.old }
     ensures faults_kept { F.faults files.old ≤ F.faults files.new }
 {
-    match files.read_all(alloc, name, max) {
+    match files.read_all(alloc, names.of(file), file.limit()) {
         Ok(bytes) => Ok(bytes),
         Err(ReadFault::Failed) => Err(Stop::NotRead(file)),
         Err(ReadFault::TooLong) => Err(Stop::Refused(file, Cause::TooLong)),
@@ -45,14 +50,11 @@ fn read_file<F: Files>(
     }
 }
 
-/// Reads the order file, which has to be empty.
-fn read_order<F: Files>(alloc: Global, files: &mut F, name: &str) -> Result<(), Stop>
-    ensures empty { OnOk result ((content : List ℕ) → F.holds files.old name.now ≡ Some content → content ≡ []) }
-    ensures not_read { IfErr result (λ stop. IsNotRead stop → Rose (F.faults files.old) (F.faults files.new)) }
-    ensures same_files { F.holds files.new ≡ F.holds files.old }
-    ensures faults_kept { F.faults files.old ≤ F.faults files.new }
+/// Whether an order file's bytes are good: today there are none.
+fn check_order(bytes: &[u8]) -> Result<(), Stop>
+    ensures good { OnOk result (content_cause InputFile.Order bytes.now ≡ None) }
+    ensures fault { IfErr result (λ stop. Finds InputFile.Order bytes.now stop) }
 {
-    let bytes = read_file(alloc, files, InputFile::Order, name, MAX_ORDER_BYTES)?;
     if bytes.is_empty() {
         Ok(())
     } else {
@@ -60,11 +62,11 @@ fn read_order<F: Files>(alloc: Global, files: &mut F, name: &str) -> Result<(), 
     }
 }
 
-/// The map of a file.
+/// The map of a file's bytes.
 fn map_in(alloc: Global, bytes: &[u8]) -> Result<GuestMap, Stop>
     ensures map { IfOk result (λ map. map_of bytes.now ≡ Ok map) }
     ensures rules { IfOk result (λ map. MapRules map.descriptors map.hosts) }
-    ensures not_read { IfErr result (λ stop. ¬ IsNotRead stop) }
+    ensures fault { IfErr result (λ stop. Finds InputFile.Map bytes.now stop) }
 {
     match read_map(alloc, bytes) {
         Ok(map) => Ok(map),
@@ -73,43 +75,94 @@ fn map_in(alloc: Global, bytes: &[u8]) -> Result<GuestMap, Stop>
     }
 }
 
-/// Reads the map file.
-fn read_guest_map<F: Files>(alloc: Global, files: &mut F, name: &str) -> Result<GuestMap, Stop>
-    ensures map { IfOk result (λ map. (content : List ℕ) → F.holds files.old name.now ≡ Some content → map_of content ≡ Ok map) }
-    ensures rules { IfOk result (λ map. MapRules map.descriptors map.hosts) }
-    ensures not_read { IfErr result (λ stop. IsNotRead stop → Rose (F.faults files.old) (F.faults files.new)) }
-    ensures same_files { F.holds files.new ≡ F.holds files.old }
-    ensures faults_kept { F.faults files.old ≤ F.faults files.new }
+/// Whether a command can be run today.
+fn is_first(command: &Command) -> bool
+    ensures { result ≡ is_first command.now }
 {
-    let bytes = read_file(alloc, files, InputFile::Map, name, MAX_MAP_BYTES)?;
-    map_in(alloc, bytes.as_slice())
+    matches!(command, Command::Accept { .. } | Command::Query { .. })
 }
 
-/// The script of a file's bytes.
-fn first_script(alloc: Global, bytes: &[u8]) -> Result<Script, Stop>
-    ensures script { IfOk result (λ script. first_script_of bytes.now ≡ Some script) }
-    ensures few { IfOk result (λ script. length script ≤ 2048) }
-    ensures first { IfOk result (λ script. All IsFirstCommand script) }
-    ensures not_read { IfErr result (λ stop. ¬ IsNotRead stop) }
+/// Whether all commands can be run today.
+fn are_first(commands: &[Command]) -> bool
+    ensures { result ≡ list_all is_first commands.now }
 {
-    match read_first(alloc, bytes) {
-        Ok(script) => Ok(script),
-        Err(FirstScriptFault::Later) => Err(Stop::Refused(InputFile::Script, Cause::Later)),
-        Err(FirstScriptFault::NoMemory) => Err(Stop::NoMemory),
+    commands.iter().all(is_first)
+}
+
+/// A script, where it can be run today.
+fn runnable(script: Script) -> Result<Script, Stop>
+    ensures same { IfOk result (λ runnable. runnable ≡ script) }
+    ensures first { OnOk result (list_all is_first script ≡ true) }
+    ensures later { IfErr result (λ stop. (stop ≡ Stop.Refused InputFile.Script Cause.Later) × (list_all is_first script ≡ false)) }
+{
+    if are_first(script.as_slice()) {
+        Ok(script)
+    } else {
+        Err(Stop::Refused(InputFile::Script, Cause::Later))
     }
 }
 
-/// Reads the script file.
-fn read_script<F: Files>(alloc: Global, files: &mut F, name: &str) -> Result<Script, Stop>
-    ensures script { IfOk result (λ script. (content : List ℕ) → F.holds files.old name.now ≡ Some content → first_script_of content ≡ Some script) }
+/// The script of a file's bytes.
+fn script_in(alloc: Global, bytes: &[u8]) -> Result<Script, Stop>
+    ensures script { IfOk result (λ script. script_of bytes.now ≡ Ok script) }
+    ensures good { OnOk result (content_cause InputFile.Script bytes.now ≡ None) }
     ensures few { IfOk result (λ script. length script ≤ 2048) }
     ensures first { IfOk result (λ script. All IsFirstCommand script) }
-    ensures not_read { IfErr result (λ stop. IsNotRead stop → Rose (F.faults files.old) (F.faults files.new)) }
+    ensures fault { IfErr result (λ stop. Finds InputFile.Script bytes.now stop) }
+{
+    match read_script(alloc, bytes) {
+        Ok(script) => runnable(script),
+        Err(ScriptFault::NoMemory) => Err(Stop::NoMemory),
+        Err(fault) => Err(Stop::Refused(InputFile::Script, Cause::OfScript(fault))),
+    }
+}
+
+/// Reads the order file, which has to be empty today.
+fn read_order<F: Files>(alloc: Global, files: &mut F, names: &Names<'_>) -> Result<(), Stop>
+    ensures good { OnOk result (IsGood (F.holds files.old) (seen names.now) InputFile.Order) }
+    ensures stop { IfErr result (λ stop. StopsAt (F.holds files.old) (seen names.now) InputFile.Order (F.faults files.old) (F.faults files.new) stop) }
+    ensures asked { OnOk result (F.asked files.new ≡ F.asked files.old ++ (seen names.now).order ∷ []) }
+    ensures asks { IfErr result (λ stop. AsksOne (seen names.now).order (F.asked files.old) (F.asked files.new) stop) }
     ensures same_files { F.holds files.new ≡ F.holds files.old }
     ensures faults_kept { F.faults files.old ≤ F.faults files.new }
 {
-    let bytes = read_file(alloc, files, InputFile::Script, name, MAX_SCRIPT_BYTES)?;
-    first_script(alloc, bytes.as_slice())
+    let bytes = read_file(alloc, files, names, InputFile::Order)?;
+    check_order(bytes.as_slice())
+}
+
+/// Reads the map file.
+fn read_guest_map<F: Files>(
+    alloc: Global,
+    files: &mut F,
+    names: &Names<'_>,
+) -> Result<GuestMap, Stop>
+    ensures good { OnOk result (IsGood (F.holds files.old) (seen names.now) InputFile.Map) }
+    ensures map { IfOk result (λ map. IsMapOf (F.holds files.old) (seen names.now) map) }
+    ensures rules { IfOk result (λ map. MapRules map.descriptors map.hosts) }
+    ensures stop { IfErr result (λ stop. StopsAt (F.holds files.old) (seen names.now) InputFile.Map (F.faults files.old) (F.faults files.new) stop) }
+    ensures asked { OnOk result (F.asked files.new ≡ F.asked files.old ++ (seen names.now).map ∷ []) }
+    ensures asks { IfErr result (λ stop. AsksOne (seen names.now).map (F.asked files.old) (F.asked files.new) stop) }
+    ensures same_files { F.holds files.new ≡ F.holds files.old }
+    ensures faults_kept { F.faults files.old ≤ F.faults files.new }
+{
+    let bytes = read_file(alloc, files, names, InputFile::Map)?;
+    map_in(alloc, bytes.as_slice())
+}
+
+/// Reads the script file.
+fn read_commands<F: Files>(alloc: Global, files: &mut F, names: &Names<'_>) -> Result<Script, Stop>
+    ensures good { OnOk result (IsGood (F.holds files.old) (seen names.now) InputFile.Script) }
+    ensures script { IfOk result (λ script. (bytes : List ℕ) → F.holds files.old (seen names.now).script ≡ Some bytes → script_of bytes ≡ Ok script) }
+    ensures few { IfOk result (λ script. length script ≤ 2048) }
+    ensures first { IfOk result (λ script. All IsFirstCommand script) }
+    ensures stop { IfErr result (λ stop. StopsAt (F.holds files.old) (seen names.now) InputFile.Script (F.faults files.old) (F.faults files.new) stop) }
+    ensures asked { OnOk result (F.asked files.new ≡ F.asked files.old ++ (seen names.now).script ∷ []) }
+    ensures asks { IfErr result (λ stop. AsksOne (seen names.now).script (F.asked files.old) (F.asked files.new) stop) }
+    ensures same_files { F.holds files.new ≡ F.holds files.old }
+    ensures faults_kept { F.faults files.old ≤ F.faults files.new }
+{
+    let bytes = read_file(alloc, files, names, InputFile::Script)?;
+    script_in(alloc, bytes.as_slice())
 }
 
 /// Reads each file in the order of the words; each is checked before the next is read.
@@ -118,18 +171,19 @@ pub(crate) fn read_input<F: Files>(
     files: &mut F,
     names: &Names<'_>,
 ) -> Result<Input, Stop>
-    ensures order { IfOk result (λ input. (content : List ℕ) → F.holds files.old names.now.order.now ≡ Some content → content ≡ []) }
-    ensures map { IfOk result (λ input. (content : List ℕ) → F.holds files.old names.now.map.now ≡ Some content → map_of content ≡ Ok input.map) }
-    ensures script { IfOk result (λ input. (content : List ℕ) → F.holds files.old names.now.script.now ≡ Some content → first_script_of content ≡ Some input.script) }
+    ensures good { OnOk result (AreGood (F.holds files.old) (seen names.now)) }
+    ensures map { IfOk result (λ input. IsMapOf (F.holds files.old) (seen names.now) input.map) }
+    ensures script { IfOk result (λ input. (bytes : List ℕ) → F.holds files.old (seen names.now).script ≡ Some bytes → script_of bytes ≡ Ok input.script) }
     ensures few { IfOk result (λ input. length input.script ≤ 2048) }
     ensures first { IfOk result (λ input. All IsFirstCommand input.script) }
     ensures rules { IfOk result (λ input. MapRules input.map.descriptors input.map.hosts) }
-    ensures not_read { IfErr result (λ stop. IsNotRead stop → Rose (F.faults files.old) (F.faults files.new)) }
+    ensures asked { OnOk result (F.asked files.new ≡ F.asked files.old ++ names_to (seen names.now) InputFile.Script) }
+    ensures stop { IfErr result (λ stop. Stopped (F.holds files.old) (seen names.now) (F.faults files.old) (F.faults files.new) (F.asked files.old) (F.asked files.new) ⊥ stop) }
     ensures same_files { F.holds files.new ≡ F.holds files.old }
     ensures faults_kept { F.faults files.old ≤ F.faults files.new }
 {
-    read_order(alloc, files, names.order)?;
-    let map = read_guest_map(alloc, files, names.map)?;
-    let script = read_script(alloc, files, names.script)?;
+    read_order(alloc, files, names)?;
+    let map = read_guest_map(alloc, files, names)?;
+    let script = read_commands(alloc, files, names)?;
     Ok(Input { map, script })
 }

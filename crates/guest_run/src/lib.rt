@@ -3,12 +3,13 @@
 
 mod answers;
 mod input;
-mod memory;
 mod one;
 mod print;
 mod processor;
 mod program;
+mod room;
 mod run;
+mod spans;
 mod stop;
 mod words;
 

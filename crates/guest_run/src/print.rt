@@ -1,9 +1,9 @@
 //! The printed text of a run.
-ghost use Rattle.std.specs.Prelude.{◌≡◌, ◌++◌, ◌+◌, ◌^◌, ◌≤◌, codes, string_bytes, None, IfOk, OnOk, IsErrOf};
+ghost use Rattle.std.specs.Prelude.{◌≡◌, ◌++◌, ◌+◌, ◌^◌, ◌≤◌, codes, string_bytes, None, IfOk, OnOk, OnErr, IsErrOf};
 ghost use Rattle.std.specs.Option.{option_copied};
 ghost use Rattle.std.specs.Fmt.{decimal};
 ghost use Rattle.guest_base.specs.Counts.{Rose};
-ghost use Rattle.guest_io.specs.Writing.{appended};
+ghost use Rattle.guest_io.specs.Writing.{appended, AppendsPrefix};
 ghost use Rattle.event_core.specs.Runs.{run_end};
 ghost use Rattle.event_core.specs.Texts.{line, reply_text, processor_text, processors_text, state_text, page_run_text, pages_text, run_text};
 ghost use Rattle.guest_run.specs.Bounds.{EndInMemory};
@@ -102,6 +102,7 @@ fn put_processors<K: Sink>(
 ) -> Result<(), PutFault>
     ensures ok { OnOk result (K.written out.new ≡ appended (K.written out.old) (processors_text 0 (replies_of_each cpus entries.now))) }
     ensures failed { IsErrOf result PutFault.Failed → Rose (K.faults out.old) (K.faults out.new) }
+    ensures cut { OnErr result (AppendsPrefix (K.written out.old) (processors_text 0 (replies_of_each cpus entries.now)) (K.written out.new)) }
     ensures faults_kept { K.faults out.old ≤ K.faults out.new }
 {
     for cpu in 0..cpus {
@@ -122,6 +123,7 @@ pub(crate) fn put_run<K: Sink>(
     requires { EndInMemory runs.now }
     ensures ok { OnOk result (K.written out.new ≡ appended (K.written out.old) (run_text (replies_of_each cpus entries.now) runs.now None)) }
     ensures failed { IsErrOf result PutFault.Failed → Rose (K.faults out.old) (K.faults out.new) }
+    ensures cut { OnErr result (AppendsPrefix (K.written out.old) (run_text (replies_of_each cpus entries.now) runs.now None) (K.written out.new)) }
     ensures faults_kept { K.faults out.old ≤ K.faults out.new }
 {
     put_processors(alloc, out, cpus, entries)?;

@@ -2,19 +2,18 @@
 ghost use Rattle.std.specs.Prelude.{◌≡◌, ℕ, List, [], ◌∷◌, ◌++◌, ◌+◌, ◌^◌, ◌<◌, ◌≤◌, None, Some, length, All, slice_get, IfOk, IfSome, OnOk};
 ghost use Rattle.event_core.specs.declared.command.Command.TheVariants.{Accept, Query};
 ghost use Rattle.event_core.specs.declared.command.Command.{Command as CommandValue};
-ghost use Rattle.event_core.specs.declared.module_call.ModuleCall.{ModuleCall};
 ghost use Rattle.event_core.specs.Holdings.{Own};
+ghost use Rattle.event_core.specs.Refusals.{memory_range_refusal, refusal_of};
 ghost use Rattle.guest_run.specs.First.{IsFirstCommand};
 ghost use Rattle.guest_run.specs.RangedCommand.{as_command};
-ghost use Rattle.event_core.specs.Refusals.{memory_range_refusal, refusal_of};
 
-use crate::answers::{range_refusal, reply_of_claim, reply_of_report};
-use crate::memory::{
-    Memory, accept_units, both_of, first_run_of, guarded_units_of, has_unaccepted, run_from,
-};
-use event_core::{Boot, Command, Entries, Entry, Event, Place, Reply, Script};
-use guest_base::{CpuNo, Units};
-use page_module::Port;
+use crate::answers::{after_report, range_refusal, reply_of_claim, span_of_claim};
+use crate::room::{take_room, unaccepted_of};
+use crate::spans::{accept_span, copy_of, run_of, stopped_page, units_of};
+use event_core::{Boot, Command, Entries, Entry, Event, Place, Reply, Script, Turn};
+use guest_base::CpuNo;
+use memory_core::Memory;
+use page_module::{Port, Span};
 use std::alloc::{AllocError, Global};
 
 /// A processor with its script, the memory that it runs on, and its entries so far.
@@ -27,11 +26,24 @@ pub(crate) struct Processor {
 }
 
 impl Processor {
-    ghost use Rattle.guest_run.specs.Ready.{Ready, Claiming, EndsOr, ClaimedOr};
+    ghost use Rattle.guest_run.specs.Ready.{Ready, Claiming, EndsOr, calls_by_now, next_turn};
+
+    /// The next step of a command. The clock is the stamp of the last entry: the entries of the only processor are numbered from 1.
+    fn turn(&self, number: u32) -> Turn
+        ensures turn { result ≡ next_turn self.now number }
+        ensures clock { result.clock < 2 ^ 64 }
+    {
+        Turn {
+            cpu: CpuNo(0),
+            cmd: number,
+            clock: u128::from(self.entries.len()),
+        }
+    }
 
     /// Adds an entry at the end.
     fn add(
         &mut self,
+        stamp: u128,
         number: u32,
         place: Place,
         event: Event,
@@ -39,63 +51,93 @@ impl Processor {
     ) -> Result<(), AllocError>
         ensures { OnOk result (self.new ≡ record self.old {
           entries = self.old.entries
-              ++ record { stamp = length self.old.entries + 1; cpu = record { 0 = 0 }; cmd = number; place = place; event = event; reply = reply } ∷ [];
+              ++ record { stamp = stamp; cpu = record { 0 = 0 }; cmd = number; place = place; event = event; reply = reply } ∷ [];
         }) }
     {
-        let stamp = u128::from(self.entries.len()) + 1;
-        self.entries.try_push(Entry {
+        let entry = Entry {
             stamp,
             cpu: CpuNo(0),
             cmd: number,
             place,
             event,
             reply,
-        })?;
+        };
+        self.entries.try_push(entry)?;
         Ok(())
     }
 
-    /// Works on a claim's run and reports it. The answer is the claim's next run; none where the command
-    /// came to its end.
+    /// Claims the guarded units of a range. The answer is the span of the first run of unaccepted ones; none where there is no run,
+    /// and then the command has come to its end.
+    fn claim(
+        &mut self,
+        alloc: Global,
+        number: u32,
+        start: u64,
+        len: u64,
+    ) -> Result<Option<Span>, AllocError>
+        requires ready { Ready self.old number }
+        requires command { slice_get self.old.script number ≡ Some (Accept start len) }
+        requires fine { memory_range_refusal start len ≡ None }
+        ensures goes_on { IfOk result (λ span. EndsOr self.new number span) }
+        ensures quiet { OnOk result (calls_by_now self.new ≡ calls_by_now self.old) }
+        ensures boot { OnOk result (self.new.boot ≡ self.old.boot) }
+        ensures script { OnOk result (self.new.script ≡ self.old.script) }
+    {
+        let mut turn = self.turn(number);
+        let units = self.memory.claim_units(start, len);
+        let unaccepted = unaccepted_of(&self.memory, units);
+        take_room(alloc, &mut self.memory, unaccepted)?;
+        let span = span_of_claim(self.memory.begin_accept(&mut turn, start, len));
+        let run = run_of(&self.boot, &span);
+        let event = Event::Claim {
+            block: None,
+            units,
+            run,
+        };
+        self.add(
+            turn.clock,
+            number,
+            Place::Memory,
+            event,
+            reply_of_claim(run),
+        )?;
+        Ok(span)
+    }
+
+    /// Works on a claim's run, whose pages are out in the span, and reports it. The answer is the span of the claim's next run; none
+    /// where the command came to its end.
     fn report<P: Port>(
         &mut self,
         alloc: Global,
         port: &mut P,
         number: u32,
-        units: Units,
-        run: Units,
-        cleared: &mut u64,
-    ) -> Result<Option<Units>, AllocError>
-        requires claiming { Claiming self.old number units run cleared.old (P.made port.old) }
-        requires end { units.first + units.count < 2 ^ 64 }
-        ensures goes_on { IfOk result (λ next. EndsOr self.new number units cleared.new (P.made port.new) next) }
-        ensures further { IfOk result (λ next. IfSome next (λ run'. run.first + run.count ≤ run'.first)) }
+        mut span: Span,
+    ) -> Result<Option<Span>, AllocError>
+        requires claiming { Claiming self.old number span }
+        ensures goes_on { IfOk result (λ next. EndsOr self.new number next) }
+        ensures further { IfOk result (λ next. IfSome next (λ s. span.ticket.pages.first < s.ticket.pages.first)) }
+        ensures made { OnOk result (P.made port.old ≡ calls_by_now self.old → P.made port.new ≡ calls_by_now self.new) }
         ensures boot { OnOk result (self.new.boot ≡ self.old.boot) }
         ensures script { OnOk result (self.new.script ≡ self.old.script) }
     {
-        let worked = accept_units(alloc, &self.boot, &mut self.memory, port, run)?;
-        *cleared += worked.cleared;
-        let next = match worked.stopped {
-            None => run_from(
-                &self.memory.bits,
-                run.first + run.count,
-                units.first + units.count,
-            ),
-            Some(_) => None,
-        };
-        let reply = reply_of_report(worked.stopped, next, *cleared);
+        let run = units_of(&self.boot, span.pages());
+        let mut turn = self.turn(number);
+        let (calls, end) = accept_span(alloc, port, &mut span, &self.boot.hosts)?;
+        let copy = copy_of(alloc, &calls)?;
+        let (next, reply) = after_report(self.memory.report(&mut turn, span, calls, end));
         let event = Event::Report {
             run,
-            calls: worked.calls,
-            stopped: worked.stopped,
-            next,
+            calls: copy,
+            stopped: stopped_page(end),
+            next: run_of(&self.boot, &next),
         };
-        self.add(number, Place::Memory, event, reply)?;
+        self.add(turn.clock, number, Place::Memory, event, reply)?;
         Ok(next)
     }
 }
 
 impl Processor {
-    ghost use Rattle.guest_run.specs.Ready.{Ready, Claiming, EndsOr, ClaimedOr};
+    ghost use Rattle.guest_run.specs.Ready.{Ready, Claiming, calls_by_now};
 
     /// Works on the runs of a claim, from its first on, until the command comes to its end.
     fn report_all<P: Port>(
@@ -103,48 +145,20 @@ impl Processor {
         alloc: Global,
         port: &mut P,
         number: u32,
-        units: Units,
-        first: Units,
+        first: Span,
     ) -> Result<(), AllocError>
-        requires claiming { Claiming self.old number units first 0 (P.made port.old) }
-        requires end { units.first + units.count < 2 ^ 64 }
-        ensures ready { OnOk result (Ready self.new (number + 1) (P.made port.new)) }
+        requires claiming { Claiming self.old number first }
+        requires made { P.made port.old ≡ calls_by_now self.old }
+        ensures ready { OnOk result (Ready self.new (number + 1)) }
+        ensures made { OnOk result (P.made port.new ≡ calls_by_now self.new) }
         ensures boot { OnOk result (self.new.boot ≡ self.old.boot) }
         ensures script { OnOk result (self.new.script ≡ self.old.script) }
     {
-        let mut cleared = 0;
-        let mut run = first;
-        while let Some(next) = self.report(alloc, port, number, units, run, &mut cleared)? {
-            run = next;
+        let mut span = first;
+        while let Some(next) = self.report(alloc, port, number, span)? {
+            span = next;
         }
         Ok(())
-    }
-
-    /// Claims the guarded units of a range. The answer is the units and the first run of unaccepted ones
-    /// among them; none where there is no run, and then the command has come to its end.
-    fn claim(
-        &mut self,
-        number: u32,
-        start: u64,
-        len: u64,
-    ) -> Result<Option<(Units, Units)>, AllocError>
-        requires ready { (made : List ModuleCall) × Ready self.old number made }
-        requires command { slice_get self.old.script number ≡ Some (Accept start len) }
-        requires fine { memory_range_refusal start len ≡ None }
-        ensures goes_on { IfOk result (λ found. (made : List ModuleCall) → Ready self.old number made → ClaimedOr self.new number made found) }
-        ensures end { IfOk result (λ found. IfSome found (λ pair. pair.0.first + pair.0.count < 2 ^ 64)) }
-        ensures boot { OnOk result (self.new.boot ≡ self.old.boot) }
-        ensures script { OnOk result (self.new.script ≡ self.old.script) }
-    {
-        let units = guarded_units_of(&self.memory.bits, start, len);
-        let run = first_run_of(&self.memory.bits, units);
-        let event = Event::Claim {
-            block: None,
-            units,
-            run,
-        };
-        self.add(number, Place::Memory, event, reply_of_claim(run))?;
-        Ok(both_of(units, run))
     }
 
     /// Accepts a range of memory.
@@ -156,30 +170,36 @@ impl Processor {
         start: u64,
         len: u64,
     ) -> Result<(), AllocError>
-        requires ready { Ready self.old number (P.made port.old) }
+        requires ready { Ready self.old number }
+        requires made { P.made port.old ≡ calls_by_now self.old }
         requires command { slice_get self.old.script number ≡ Some (Accept start len) }
         requires fine { memory_range_refusal start len ≡ None }
-        ensures ready { OnOk result (Ready self.new (number + 1) (P.made port.new)) }
+        ensures ready { OnOk result (Ready self.new (number + 1)) }
+        ensures made { OnOk result (P.made port.new ≡ calls_by_now self.new) }
         ensures boot { OnOk result (self.new.boot ≡ self.old.boot) }
         ensures script { OnOk result (self.new.script ≡ self.old.script) }
     {
-        match self.claim(number, start, len)? {
-            Some((units, run)) => self.report_all(alloc, port, number, units, run),
+        match self.claim(alloc, number, start, len)? {
+            Some(span) => self.report_all(alloc, port, number, span),
             None => Ok(()),
         }
     }
 
     /// Tells whether a range of memory has an unaccepted unit.
-    fn query(&mut self, number: u32, start: u64, len: u64) -> Result<(), AllocError>
-        requires ready { (made : List ModuleCall) × Ready self.old number made }
+    fn query(&mut self, alloc: Global, number: u32, start: u64, len: u64) -> Result<(), AllocError>
+        requires ready { Ready self.old number }
         requires command { slice_get self.old.script number ≡ Some (Query start len) }
         requires fine { memory_range_refusal start len ≡ None }
-        ensures ready { OnOk result ((made : List ModuleCall) → Ready self.old number made → Ready self.new (number + 1) made) }
+        ensures ready { OnOk result (Ready self.new (number + 1)) }
+        ensures quiet { OnOk result (calls_by_now self.new ≡ calls_by_now self.old) }
         ensures boot { OnOk result (self.new.boot ≡ self.old.boot) }
         ensures script { OnOk result (self.new.script ≡ self.old.script) }
     {
-        let found = has_unaccepted(&self.memory.bits, start, len);
+        let mut turn = self.turn(number);
+        take_room(alloc, &mut self.memory, 0)?;
+        let found = self.memory.query(&mut turn, start, len);
         self.add(
+            turn.clock,
             number,
             Place::Memory,
             Event::Asked { found },
@@ -190,13 +210,15 @@ impl Processor {
 
     /// Refuses the present command.
     fn refuse(&mut self, number: u32, refusal: Reply) -> Result<(), AllocError>
-        requires ready { (made : List ModuleCall) × Ready self.old number made }
+        requires ready { Ready self.old number }
         requires refused { (c : CommandValue) × (slice_get self.old.script number ≡ Some c) × ((own : Own) → refusal_of self.old.boot own c ≡ Some refusal) }
-        ensures ready { OnOk result ((made : List ModuleCall) → Ready self.old number made → Ready self.new (number + 1) made) }
+        ensures ready { OnOk result (Ready self.new (number + 1)) }
+        ensures quiet { OnOk result (calls_by_now self.new ≡ calls_by_now self.old) }
         ensures boot { OnOk result (self.new.boot ≡ self.old.boot) }
         ensures script { OnOk result (self.new.script ≡ self.old.script) }
     {
-        self.add(number, Place::Own, Event::Own, Some(refusal))?;
+        let stamp = self.turn(number).clock + 1;
+        self.add(stamp, number, Place::Own, Event::Own, Some(refusal))?;
         Ok(())
     }
 
@@ -207,10 +229,12 @@ impl Processor {
         port: &mut P,
         number: u32,
     ) -> Result<(), AllocError>
-        requires ready { Ready self.old number (P.made port.old) }
+        requires ready { Ready self.old number }
+        requires made { P.made port.old ≡ calls_by_now self.old }
         requires more { number < length self.old.script }
         requires first { All IsFirstCommand self.old.script }
-        ensures ready { OnOk result (Ready self.new (number + 1) (P.made port.new)) }
+        ensures ready { OnOk result (Ready self.new (number + 1)) }
+        ensures made { OnOk result (P.made port.new ≡ calls_by_now self.new) }
         ensures boot { OnOk result (self.new.boot ≡ self.old.boot) }
         ensures script { OnOk result (self.new.script ≡ self.old.script) }
     {
@@ -221,7 +245,7 @@ impl Processor {
             },
             Ranged::Query(start, len) => match range_refusal(start, len) {
                 Some(refusal) => self.refuse(number, refusal),
-                None => self.query(number, start, len),
+                None => self.query(alloc, number, start, len),
             },
         }
     }

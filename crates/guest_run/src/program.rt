@@ -1,22 +1,28 @@
 //! The program, from its words to its status.
-ghost use Rattle.std.specs.Prelude.{◌≡◌, ◌≢◌, ◌<◌, ◌≤◌, ◌↔◌, ◌⊎◌, [], None, length, string_bytes, All, IfOk, OnOk, IsErrOf, IsSome};
+ghost use Rattle.std.specs.Prelude.{◌≡◌, ◌≢◌, ◌<◌, ◌≤◌, ◌⊎◌, [], None, Some, length, string_bytes, All, IfSome, OnOk, OnErr, IsErrOf, IsSome};
 ghost use Rattle.guest_base.specs.Counts.{Rose};
-ghost use Rattle.event_core.specs.Calls.{calls_of};
-ghost use Rattle.event_core.specs.Runs.{AreMaximalRuns};
-ghost use Rattle.event_core.specs.MemoryRows.{page_state};
 ghost use Rattle.event_core.specs.AcceptedOnce.{AcceptedOnce};
+ghost use Rattle.event_core.specs.BytesTold.{BytesTold};
+ghost use Rattle.event_core.specs.Calls.{calls_of};
+ghost use Rattle.event_core.specs.Disjoint.{Disjoint};
+ghost use Rattle.event_core.specs.FullOnlyWhereFull.{FullOnlyWhereFull};
+ghost use Rattle.event_core.specs.MemoryRows.{page_state};
+ghost use Rattle.event_core.specs.Runs.{AreMaximalRuns};
+ghost use Rattle.event_core.specs.Untouched.{Untouched};
 ghost use Rattle.guest_io.specs.Writing.{appended};
 ghost use Rattle.guest_run.specs.Bounds.{EndInMemory};
-ghost use Rattle.guest_run.specs.Ends.{Done};
-ghost use Rattle.guest_run.specs.Recordings.{Booted, BootedBy, History, PrintedAfter};
+ghost use Rattle.guest_run.specs.Endings.{names_of, names_to, first_faults, AreToldGood, AsksFront, OfWords, Put, PutFront, RefusesFirst, RefusesFirstOf, SaysBootStopped, SaysNotRead, SaysRefused, SaysWords};
+ghost use Rattle.guest_run.specs.Ends.{Done, IsKnown};
+ghost use Rattle.guest_run.specs.Recordings.{Booted, BootedBy, CutAfter, History, PrintedAfter};
 ghost use Rattle.guest_run.specs.Replies.{PortsMade};
-ghost use Rattle.guest_run.specs.Stops.{IsNotRead, status_of, stop_line, words_line, StoppedAs, StoppedAt};
+ghost use Rattle.guest_run.specs.Stopping.{EndsWith, StopEnds};
+ghost use Rattle.guest_run.specs.Stops.{words_line};
 ghost use Rattle.guest_run.specs.Views.{seen};
 ghost use Rattle.guest_run.specs.Words.{bytes_of_words, named_by};
 
 use crate::print::put_run;
 use crate::run::run;
-use crate::stop::{Stop, print_stop};
+use crate::stop::{InputFile, Stop, print_stop};
 use crate::words::{Names, read_words};
 use event_core::{Recorded, Runs};
 use guest_io::{Files, PutFault, Sink};
@@ -27,7 +33,7 @@ use std::alloc::{AllocError, Global};
 #[derive(Debug, Drop)]
 pub struct Ended {
     /// 0 done, 2 words that aren't in the grammar, 3 a refused file, 4 a file that couldn't be read, 5 text that couldn't be
-    /// written, 6 want of memory.
+    /// written, 6 want of memory, 7 a boot that stopped.
     pub status: u8,
     /// The run, where there was one.
     pub run: Option<Recorded>,
@@ -49,9 +55,8 @@ fn status_after(status: u8, put: Result<(), PutFault>) -> u8
 /// Ends without a run: puts a line.
 fn end_with_line<K: Sink>(alloc: Global, out: &mut K, status: u8, line: &str) -> Ended
     ensures run { result.run ≡ None }
-    ensures status { (result.status ≡ status) ⊎ (result.status ≡ 5) ⊎ (result.status ≡ 6) }
-    ensures put { (result.status ≡ 5) ⊎ (result.status ≡ 6) ⊎ (K.written out.new ≡ appended (K.written out.old) line.now) }
-    ensures failed { result.status ≡ 5 → (status ≡ 5) ⊎ Rose (K.faults out.old) (K.faults out.new) }
+    ensures ends { EndsWith (K.written out.old) (K.written out.new) (K.faults out.old) (K.faults out.new) line.now status result.status }
+    ensures put { (result.status ≡ 5) ⊎ (result.status ≡ 6) ⊎ Put (K.written out.old) (K.written out.new) line.now }
 {
     let put = out.put(alloc, line.as_bytes());
     Ended {
@@ -67,9 +72,11 @@ fn put_recorded<K: Sink>(
     recorded: &Recorded,
     runs: &Runs,
 ) -> Result<(), PutFault>
-    requires { EndInMemory runs.now }
-    ensures printed { OnOk result (AreMaximalRuns (page_state recorded.now.boot (calls_of recorded.now.boot recorded.now.entries)) runs.now → PrintedAfter recorded.now (K.written out.old) (K.written out.new)) }
+    requires within { EndInMemory runs.now }
+    requires maximal { AreMaximalRuns (page_state recorded.now.boot (calls_of recorded.now.boot recorded.now.entries)) runs.now }
+    ensures printed { OnOk result (PrintedAfter recorded.now (K.written out.old) (K.written out.new)) }
     ensures failed { IsErrOf result PutFault.Failed → Rose (K.faults out.old) (K.faults out.new) }
+    ensures cut { OnErr result (CutAfter recorded.now (K.written out.old) (K.written out.new)) }
 {
     put_run(
         alloc,
@@ -83,11 +90,7 @@ fn put_recorded<K: Sink>(
 /// Ends where the run stopped before its text.
 fn end_by<K: Sink>(alloc: Global, out: &mut K, names: &Names<'_>, stop: Stop) -> Ended
     ensures run { result.run ≡ None }
-    ensures status { (result.status ≡ status_of stop) ⊎ (result.status ≡ 5) ⊎ (result.status ≡ 6) }
-    ensures put { (result.status ≡ 5) ⊎ (result.status ≡ 6) ⊎ (K.written out.new ≡ appended (K.written out.old) (stop_line (seen names.now) stop)) }
-    ensures known { (result.status ≡ 3) ⊎ (result.status ≡ 4) ⊎ (result.status ≡ 5) ⊎ (result.status ≡ 6) }
-    ensures not_read { result.status ≡ 4 → IsNotRead stop }
-    ensures failed { result.status ≡ 5 → Rose (K.faults out.old) (K.faults out.new) }
+    ensures ends { StopEnds (K.written out.old) (K.written out.new) (K.faults out.old) (K.faults out.new) (seen names.now) stop result.status }
 {
     match print_stop(alloc, names, stop) {
         Ok(line) => end_with_line(alloc, out, stop.status(), line.as_str()),
@@ -95,6 +98,23 @@ fn end_by<K: Sink>(alloc: Global, out: &mut K, names: &Names<'_>, stop: Stop) ->
             status: 6,
             run: None,
         },
+    }
+}
+
+/// Ends with a run: puts its text.
+fn end_with_run<K: Sink>(alloc: Global, out: &mut K, recorded: Recorded, runs: &Runs) -> Ended
+    requires within { EndInMemory runs.now }
+    requires maximal { AreMaximalRuns (page_state recorded.boot (calls_of recorded.boot recorded.entries)) runs.now }
+    ensures run { result.run ≡ Some recorded }
+    ensures known { (result.status ≡ 0) ⊎ (result.status ≡ 5) ⊎ (result.status ≡ 6) }
+    ensures printed { result.status ≡ 0 → PrintedAfter recorded (K.written out.old) (K.written out.new) }
+    ensures failed { result.status ≡ 5 → Rose (K.faults out.old) (K.faults out.new) }
+    ensures cut { result.status ≡ 5 → CutAfter recorded (K.written out.old) (K.written out.new) }
+{
+    let put = put_recorded(alloc, out, &recorded, runs);
+    Ended {
+        status: status_after(0, put),
+        run: Some(recorded),
     }
 }
 
@@ -108,27 +128,31 @@ fn run_named<F: Files, K: Sink, P: Port>(
 ) -> Ended
     requires some { 0 < length ports.old.items }
     requires unmade { All (λ port. P.made port ≡ []) ports.old.items }
+    ensures booted { IfSome result.run (λ r. BootedBy (F.holds files.old) (seen names.now) r) }
+    ensures history { IfSome result.run (λ r. History [] r) }
+    ensures accepted_once { IfSome result.run (λ r. AcceptedOnce r.boot r.entries) }
+    ensures untouched { IfSome result.run (λ r. Untouched r.boot r.scripts r.entries) }
+    ensures disjoint { IfSome result.run (λ r. Disjoint r.entries) }
+    ensures bytes { IfSome result.run (λ r. BytesTold r.boot r.scripts r.entries) }
+    ensures full { IfSome result.run (λ r. FullOnlyWhereFull r.boot r.scripts r.entries) }
+    ensures calls { IfSome result.run (λ r. PortsMade P.made ports.new.items r) }
     ensures run { result.status ≡ 0 → IsSome result.run }
-    ensures booted { Done result (λ r. BootedBy (F.holds files.old) (seen names.now) r) }
-    ensures history { Done result (λ r. History [] r) }
     ensures printed { Done result (λ r. PrintedAfter r (K.written out.old) (K.written out.new)) }
-    ensures accepted_once { Done result (λ r. AcceptedOnce r.boot r.entries) }
-    ensures calls { Done result (λ r. PortsMade P.made ports.new.items r) }
-    ensures known { (result.status ≡ 0) ⊎ (result.status ≡ 3) ⊎ (result.status ≡ 4) ⊎ (result.status ≡ 5) ⊎ (result.status ≡ 6) }
+    ensures known { IsKnown result.status }
     ensures not_words { result.status ≢ 2 }
-    ensures stopped { (result.status ≡ 3) ⊎ (result.status ≡ 4) → StoppedAs (seen names.now) result.status (K.written out.old) (K.written out.new) }
     ensures no_run { IsSome result.run → (result.status ≡ 0) ⊎ (result.status ≡ 5) ⊎ (result.status ≡ 6) }
-    ensures not_read { result.status ≡ 4 → Rose (F.faults files.old) (F.faults files.new) }
+    ensures refused { result.status ≡ 3 → SaysRefused (F.holds files.old) (Put (K.written out.old) (K.written out.new)) (seen names.now) }
+    ensures first_refused { ¬ Rose (F.faults files.old) (F.faults files.new) → RefusesFirstOf (F.holds files.old) (seen names.now) (Put (K.written out.old) (K.written out.new)) result.status }
+    ensures not_read { result.status ≡ 4 → SaysNotRead (F.faults files.old) (F.faults files.new) (F.asked files.old) (F.asked files.new) (Put (K.written out.old) (K.written out.new)) (seen names.now) }
     ensures failed { result.status ≡ 5 → Rose (K.faults out.old) (K.faults out.new) }
+    ensures cut_line { result.status ≡ 5 → result.run ≡ None → SaysRefused (F.holds files.old) (PutFront (K.written out.old) (K.written out.new)) (seen names.now) ⊎ SaysNotRead (F.faults files.old) (F.faults files.new) (F.asked files.old) (F.asked files.new) (PutFront (K.written out.old) (K.written out.new)) (seen names.now) ⊎ SaysBootStopped P.made P.faults ports.old.items ports.new.items (F.holds files.old) (PutFront (K.written out.old) (K.written out.new)) (seen names.now) }
+    ensures cut_text { result.status ≡ 5 → IfSome result.run (λ r. CutAfter r (K.written out.old) (K.written out.new)) }
+    ensures boot_stopped { result.status ≡ 7 → SaysBootStopped P.made P.faults ports.old.items ports.new.items (F.holds files.old) (Put (K.written out.old) (K.written out.new)) (seen names.now) }
+    ensures complete { AreToldGood (F.holds files.old) (seen names.now) → ¬ Rose (F.faults files.old) (F.faults files.new) → ¬ Rose (K.faults out.old) (K.faults out.new) → ¬ Rose (first_faults P.faults ports.old.items) (first_faults P.faults ports.new.items) → (result.status ≡ 0) ⊎ (result.status ≡ 6) }
+    ensures asked { AsksFront (names_to (seen names.now) InputFile.Script) (F.asked files.old) (F.asked files.new) }
 {
     match run(alloc, names, files, ports) {
-        Ok((recorded, runs)) => {
-            let put = put_recorded(alloc, out, &recorded, &runs);
-            Ended {
-                status: status_after(0, put),
-                run: Some(recorded),
-            }
-        }
+        Ok((recorded, runs)) => end_with_run(alloc, out, recorded, &runs),
         Err(stop) => end_by(alloc, out, names, stop),
     }
 }
@@ -136,7 +160,7 @@ fn run_named<F: Files, K: Sink, P: Port>(
 /// Does what the words say, on one thread: `turns ORDER --slots 0 MAP SCRIPT` reads the three files in this order, boots the map
 /// without a pool, runs the script on the first port, and puts the text of the run.
 ///
-/// Today the order file has to be empty, the map of the form that can be booted, and the script one of `accept` and `query` lines.
+/// Today the order file has to be empty, and the script one of `accept` and `query` lines.
 pub fn plain<F: Files, K: Sink, P: Port>(
     alloc: Global,
     words: &[String],
@@ -147,23 +171,37 @@ pub fn plain<F: Files, K: Sink, P: Port>(
     requires ports { 0 < length ports.old.items }
     requires unmade { All (λ port. P.made port ≡ []) ports.old.items }
 
-    // At status 0.
-    ensures run { result.status ≡ 0 → IsSome result.run }
-    ensures booted { Done result (λ r. Booted (F.holds files.old) (bytes_of_words words.now) r) }
-    ensures history { Done result (λ r. History [] r) }
-    ensures printed { Done result (λ r. PrintedAfter r (K.written out.old) (K.written out.new)) }
-    ensures accepted_once { Done result (λ r. AcceptedOnce r.boot r.entries) }
-    ensures calls { Done result (λ r. PortsMade P.made ports.new.items r) }
+    // Every recorded run, whatever the status.
+    ensures booted { IfSome result.run (λ r. Booted (F.holds files.old) (bytes_of_words words.now) r) }
+    ensures history { IfSome result.run (λ r. History [] r) }
+    ensures accepted_once { IfSome result.run (λ r. AcceptedOnce r.boot r.entries) }
+    ensures untouched { IfSome result.run (λ r. Untouched r.boot r.scripts r.entries) }
+    ensures disjoint { IfSome result.run (λ r. Disjoint r.entries) }
+    ensures bytes { IfSome result.run (λ r. BytesTold r.boot r.scripts r.entries) }
+    ensures full { IfSome result.run (λ r. FullOnlyWhereFull r.boot r.scripts r.entries) }
+    ensures calls { IfSome result.run (λ r. PortsMade P.made ports.new.items r) }
 
-    // The other statuses.
-    ensures known { (result.status ≡ 0) ⊎ (result.status ≡ 2) ⊎ (result.status ≡ 3) ⊎ (result.status ≡ 4) ⊎ (result.status ≡ 5) ⊎ (result.status ≡ 6) }
+    // Status 0: all is printed.
+    ensures run { result.status ≡ 0 → IsSome result.run }
+    ensures printed { Done result (λ r. PrintedAfter r (K.written out.old) (K.written out.new)) }
+
+    // The other statuses, each with its cause.
+    ensures known { IsKnown result.status }
     ensures no_run { IsSome result.run → (result.status ≡ 0) ⊎ (result.status ≡ 5) ⊎ (result.status ≡ 6) }
     ensures words { result.status ≡ 2 → named_by (bytes_of_words words.now) ≡ None }
-    ensures refused { named_by (bytes_of_words words.now) ≡ None → (result.status ≡ 2) ⊎ (result.status ≡ 5) ⊎ (result.status ≡ 6) }
+    ensures words_refused { named_by (bytes_of_words words.now) ≡ None → (result.status ≡ 2) ⊎ (result.status ≡ 5) ⊎ (result.status ≡ 6) }
     ensures words_line { result.status ≡ 2 → K.written out.new ≡ appended (K.written out.old) words_line }
-    ensures stopped { (result.status ≡ 3) ⊎ (result.status ≡ 4) → StoppedAt (bytes_of_words words.now) result.status (K.written out.old) (K.written out.new) }
-    ensures not_read { result.status ≡ 4 → Rose (F.faults files.old) (F.faults files.new) }
+    ensures refused { result.status ≡ 3 → OfWords (bytes_of_words words.now) (λ named. SaysRefused (F.holds files.old) (Put (K.written out.old) (K.written out.new)) named) }
+    ensures first_refused { ¬ Rose (F.faults files.old) (F.faults files.new) → RefusesFirst (F.holds files.old) (bytes_of_words words.now) (Put (K.written out.old) (K.written out.new)) result.status }
+    ensures not_read { result.status ≡ 4 → OfWords (bytes_of_words words.now) (λ named. SaysNotRead (F.faults files.old) (F.faults files.new) (F.asked files.old) (F.asked files.new) (Put (K.written out.old) (K.written out.new)) named) }
     ensures failed { result.status ≡ 5 → Rose (K.faults out.old) (K.faults out.new) }
+    ensures cut_line { result.status ≡ 5 → result.run ≡ None → SaysWords (bytes_of_words words.now) (PutFront (K.written out.old) (K.written out.new)) ⊎ OfWords (bytes_of_words words.now) (λ named. SaysRefused (F.holds files.old) (PutFront (K.written out.old) (K.written out.new)) named ⊎ SaysNotRead (F.faults files.old) (F.faults files.new) (F.asked files.old) (F.asked files.new) (PutFront (K.written out.old) (K.written out.new)) named ⊎ SaysBootStopped P.made P.faults ports.old.items ports.new.items (F.holds files.old) (PutFront (K.written out.old) (K.written out.new)) named) }
+    ensures cut_text { result.status ≡ 5 → IfSome result.run (λ r. CutAfter r (K.written out.old) (K.written out.new)) }
+    ensures boot_stopped { result.status ≡ 7 → OfWords (bytes_of_words words.now) (λ named. SaysBootStopped P.made P.faults ports.old.items ports.new.items (F.holds files.old) (Put (K.written out.old) (K.written out.new)) named) }
+    ensures complete { OfWords (bytes_of_words words.now) (AreToldGood (F.holds files.old)) → ¬ Rose (F.faults files.old) (F.faults files.new) → ¬ Rose (K.faults out.old) (K.faults out.new) → ¬ Rose (first_faults P.faults ports.old.items) (first_faults P.faults ports.new.items) → (result.status ≡ 0) ⊎ (result.status ≡ 6) }
+
+    // Whatever the status.
+    ensures asked { AsksFront (names_of (named_by (bytes_of_words words.now))) (F.asked files.old) (F.asked files.new) }
 {
     match read_words(words) {
         Some(names) => run_named(alloc, &names, files, out, ports),
@@ -182,23 +220,37 @@ pub fn top<F: Files, K: Sink, P: Port>(
     requires ports { 0 < length ports.old.items }
     requires unmade { All (λ port. P.made port ≡ []) ports.old.items }
 
-    // At status 0.
-    ensures run { result.status ≡ 0 → IsSome result.run }
-    ensures booted { Done result (λ r. Booted (F.holds files.old) (bytes_of_words words.now) r) }
-    ensures history { Done result (λ r. History [] r) }
-    ensures printed { Done result (λ r. PrintedAfter r (K.written out.old) (K.written out.new)) }
-    ensures accepted_once { Done result (λ r. AcceptedOnce r.boot r.entries) }
-    ensures calls { Done result (λ r. PortsMade P.made ports.new.items r) }
+    // Every recorded run, whatever the status.
+    ensures booted { IfSome result.run (λ r. Booted (F.holds files.old) (bytes_of_words words.now) r) }
+    ensures history { IfSome result.run (λ r. History [] r) }
+    ensures accepted_once { IfSome result.run (λ r. AcceptedOnce r.boot r.entries) }
+    ensures untouched { IfSome result.run (λ r. Untouched r.boot r.scripts r.entries) }
+    ensures disjoint { IfSome result.run (λ r. Disjoint r.entries) }
+    ensures bytes { IfSome result.run (λ r. BytesTold r.boot r.scripts r.entries) }
+    ensures full { IfSome result.run (λ r. FullOnlyWhereFull r.boot r.scripts r.entries) }
+    ensures calls { IfSome result.run (λ r. PortsMade P.made ports.new.items r) }
 
-    // The other statuses.
-    ensures known { (result.status ≡ 0) ⊎ (result.status ≡ 2) ⊎ (result.status ≡ 3) ⊎ (result.status ≡ 4) ⊎ (result.status ≡ 5) ⊎ (result.status ≡ 6) }
+    // Status 0: all is printed.
+    ensures run { result.status ≡ 0 → IsSome result.run }
+    ensures printed { Done result (λ r. PrintedAfter r (K.written out.old) (K.written out.new)) }
+
+    // The other statuses, each with its cause.
+    ensures known { IsKnown result.status }
     ensures no_run { IsSome result.run → (result.status ≡ 0) ⊎ (result.status ≡ 5) ⊎ (result.status ≡ 6) }
     ensures words { result.status ≡ 2 → named_by (bytes_of_words words.now) ≡ None }
-    ensures refused { named_by (bytes_of_words words.now) ≡ None → (result.status ≡ 2) ⊎ (result.status ≡ 5) ⊎ (result.status ≡ 6) }
+    ensures words_refused { named_by (bytes_of_words words.now) ≡ None → (result.status ≡ 2) ⊎ (result.status ≡ 5) ⊎ (result.status ≡ 6) }
     ensures words_line { result.status ≡ 2 → K.written out.new ≡ appended (K.written out.old) words_line }
-    ensures stopped { (result.status ≡ 3) ⊎ (result.status ≡ 4) → StoppedAt (bytes_of_words words.now) result.status (K.written out.old) (K.written out.new) }
-    ensures not_read { result.status ≡ 4 → Rose (F.faults files.old) (F.faults files.new) }
+    ensures refused { result.status ≡ 3 → OfWords (bytes_of_words words.now) (λ named. SaysRefused (F.holds files.old) (Put (K.written out.old) (K.written out.new)) named) }
+    ensures first_refused { ¬ Rose (F.faults files.old) (F.faults files.new) → RefusesFirst (F.holds files.old) (bytes_of_words words.now) (Put (K.written out.old) (K.written out.new)) result.status }
+    ensures not_read { result.status ≡ 4 → OfWords (bytes_of_words words.now) (λ named. SaysNotRead (F.faults files.old) (F.faults files.new) (F.asked files.old) (F.asked files.new) (Put (K.written out.old) (K.written out.new)) named) }
     ensures failed { result.status ≡ 5 → Rose (K.faults out.old) (K.faults out.new) }
+    ensures cut_line { result.status ≡ 5 → result.run ≡ None → SaysWords (bytes_of_words words.now) (PutFront (K.written out.old) (K.written out.new)) ⊎ OfWords (bytes_of_words words.now) (λ named. SaysRefused (F.holds files.old) (PutFront (K.written out.old) (K.written out.new)) named ⊎ SaysNotRead (F.faults files.old) (F.faults files.new) (F.asked files.old) (F.asked files.new) (PutFront (K.written out.old) (K.written out.new)) named ⊎ SaysBootStopped P.made P.faults ports.old.items ports.new.items (F.holds files.old) (PutFront (K.written out.old) (K.written out.new)) named) }
+    ensures cut_text { result.status ≡ 5 → IfSome result.run (λ r. CutAfter r (K.written out.old) (K.written out.new)) }
+    ensures boot_stopped { result.status ≡ 7 → OfWords (bytes_of_words words.now) (λ named. SaysBootStopped P.made P.faults ports.old.items ports.new.items (F.holds files.old) (Put (K.written out.old) (K.written out.new)) named) }
+    ensures complete { OfWords (bytes_of_words words.now) (AreToldGood (F.holds files.old)) → ¬ Rose (F.faults files.old) (F.faults files.new) → ¬ Rose (K.faults out.old) (K.faults out.new) → ¬ Rose (first_faults P.faults ports.old.items) (first_faults P.faults ports.new.items) → (result.status ≡ 0) ⊎ (result.status ≡ 6) }
+
+    // Whatever the status.
+    ensures asked { AsksFront (names_of (named_by (bytes_of_words words.now))) (F.asked files.old) (F.asked files.new) }
 {
     plain(alloc, words, files, out, ports)
 }

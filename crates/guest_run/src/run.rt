@@ -1,27 +1,57 @@
 //! A run, from its files to its history.
-ghost use Rattle.std.specs.Prelude.{◌≡◌, ◌∷◌, ◌<◌, ◌≤◌, [], length, All, IfOk, IfErr};
+ghost use Rattle.std.specs.Prelude.{◌≡◌, ◌∷◌, ◌++◌, ◌<◌, ◌≤◌, ℕ, List, [], Some, Ok, length, All, IfOk, IfErr, OnOk};
 ghost use Rattle.guest_base.specs.Counts.{Rose};
-ghost use Rattle.event_core.specs.Calls.{calls_of};
-ghost use Rattle.event_core.specs.Runs.{AreMaximalRuns};
-ghost use Rattle.event_core.specs.MemoryRows.{page_state};
+ghost use Rattle.guest_base.specs.declared.memory.HostRun.{HostRun};
+ghost use Rattle.event_core.specs.declared.boot.Descriptor.{Descriptor};
 ghost use Rattle.event_core.specs.AcceptedOnce.{AcceptedOnce};
+ghost use Rattle.event_core.specs.Boot.{BootRight};
+ghost use Rattle.event_core.specs.BytesTold.{BytesTold};
+ghost use Rattle.event_core.specs.Calls.{calls_of};
+ghost use Rattle.event_core.specs.Disjoint.{Disjoint};
+ghost use Rattle.event_core.specs.FullOnlyWhereFull.{FullOnlyWhereFull};
+ghost use Rattle.event_core.specs.Map.{MapRules};
+ghost use Rattle.event_core.specs.MemoryRows.{page_state};
+ghost use Rattle.event_core.specs.Runs.{AreMaximalRuns};
+ghost use Rattle.event_core.specs.Untouched.{Untouched};
 ghost use Rattle.guest_boot.specs.Worlds.{WorldStands};
 ghost use Rattle.guest_run.specs.Bounds.{EndInMemory};
+ghost use Rattle.guest_run.specs.Endings.{names_to, first_made, first_faults, AreGood, OthersUnmade, BootStops};
 ghost use Rattle.guest_run.specs.First.{IsFirstCommand};
 ghost use Rattle.guest_run.specs.Recordings.{BootedBy, History};
 ghost use Rattle.guest_run.specs.Replies.{PortsMade};
-ghost use Rattle.guest_run.specs.Stops.{IsNotRead};
+ghost use Rattle.guest_run.specs.Stopping.{BootFails, Stopped};
 ghost use Rattle.guest_run.specs.Views.{seen};
 
-use crate::input::read_input;
+use crate::input::{Input, read_input};
 use crate::one::turns;
-use crate::stop::{Cause, InputFile, Stop};
+use crate::stop::{InputFile, Stop};
 use crate::words::Names;
+use efi_map::GuestMap;
 use event_core::{Recorded, Runs, Script};
-use guest_boot::{World, boot};
+use guest_boot::{BootFault, World, boot};
 use guest_io::Files;
 use page_module::Port;
 use std::alloc::{AllocError, Global};
+
+/// Boots the map on the first port: without a pool, with one area and one processor.
+fn boot_on_first<P: Port>(alloc: Global, map: &GuestMap, ports: &mut Vec<P>) -> Result<World, Stop>
+    requires rules { MapRules map.now.descriptors map.now.hosts }
+    requires some { 0 < length ports.old.items }
+    requires unmade { All (λ port. P.made port ≡ []) ports.old.items }
+    ensures right { IfOk result (λ w. BootRight map.now.descriptors map.now.hosts 0 1 1 w.boot) }
+    ensures stands { IfOk result (λ w. WorldStands w) }
+    ensures made { IfOk result (λ w. first_made P.made ports.new.items ≡ w.boot.calls) }
+    ensures stop { IfErr result (λ stop. BootFails P.made P.faults ports.old.items ports.new.items map.now stop) }
+    ensures faults { first_faults P.faults ports.old.items ≤ first_faults P.faults ports.new.items }
+    ensures others { OthersUnmade P.made ports.new.items }
+    ensures kept { length ports.new.items ≡ length ports.old.items }
+{
+    match boot(alloc, map, 1, 1, &mut ports[0]) {
+        Ok(world) => Ok(world),
+        Err(BootFault::Module(_)) => Err(Stop::Module),
+        Err(BootFault::NoMemory) => Err(Stop::NoMemory),
+    }
+}
 
 /// Runs the script of the one processor on the first port.
 fn turns_on_first<P: Port>(
@@ -31,23 +61,57 @@ fn turns_on_first<P: Port>(
     ports: &mut Vec<P>,
 ) -> Result<(Recorded, Runs), AllocError>
     requires stands { WorldStands world }
-    requires one { world.boot.cpus ≡ 1 }
-    requires calls { world.boot.calls ≡ [] }
+    requires right { (map : List Descriptor) × (hosts : List HostRun) × (slots areas : ℕ) × MapRules map hosts × BootRight map hosts slots areas 1 world.boot }
     requires some { 0 < length ports.old.items }
-    requires unmade { All (λ port. P.made port ≡ []) ports.old.items }
+    requires made { first_made P.made ports.old.items ≡ world.boot.calls }
+    requires others { OthersUnmade P.made ports.old.items }
     requires few { length script ≤ 2048 }
     requires first { All IsFirstCommand script }
     ensures boot { IfOk result (λ r. r.0.boot ≡ world.boot) }
     ensures scripts { IfOk result (λ r. r.0.scripts ≡ script ∷ []) }
     ensures history { IfOk result (λ r. History [] r.0) }
+    ensures accepted_once { IfOk result (λ r. AcceptedOnce r.0.boot r.0.entries) }
+    ensures untouched { IfOk result (λ r. Untouched r.0.boot r.0.scripts r.0.entries) }
+    ensures disjoint { IfOk result (λ r. Disjoint r.0.entries) }
+    ensures bytes { IfOk result (λ r. BytesTold r.0.boot r.0.scripts r.0.entries) }
+    ensures full { IfOk result (λ r. FullOnlyWhereFull r.0.boot r.0.scripts r.0.entries) }
     ensures made { IfOk result (λ r. PortsMade P.made ports.new.items r.0) }
     ensures runs { IfOk result (λ r. AreMaximalRuns (page_state r.0.boot (calls_of r.0.boot r.0.entries)) r.1) }
+    ensures within { IfOk result (λ r. EndInMemory r.1) }
 {
     turns(alloc, world, script, &mut ports[0])
 }
 
-/// Reads the files, boots the map, and runs the script. It ends before that where a file is refused or couldn't be read, or for
-/// want of memory.
+/// Boots the map and runs the script.
+fn run_input<P: Port>(
+    alloc: Global,
+    input: Input,
+    ports: &mut Vec<P>,
+) -> Result<(Recorded, Runs), Stop>
+    requires rules { MapRules input.map.descriptors input.map.hosts }
+    requires few { length input.script ≤ 2048 }
+    requires first { All IsFirstCommand input.script }
+    requires some { 0 < length ports.old.items }
+    requires unmade { All (λ port. P.made port ≡ []) ports.old.items }
+    ensures right { IfOk result (λ r. BootRight input.map.descriptors input.map.hosts 0 1 1 r.0.boot) }
+    ensures scripts { IfOk result (λ r. r.0.scripts ≡ input.script ∷ []) }
+    ensures history { IfOk result (λ r. History [] r.0) }
+    ensures accepted_once { IfOk result (λ r. AcceptedOnce r.0.boot r.0.entries) }
+    ensures untouched { IfOk result (λ r. Untouched r.0.boot r.0.scripts r.0.entries) }
+    ensures disjoint { IfOk result (λ r. Disjoint r.0.entries) }
+    ensures bytes { IfOk result (λ r. BytesTold r.0.boot r.0.scripts r.0.entries) }
+    ensures full { IfOk result (λ r. FullOnlyWhereFull r.0.boot r.0.scripts r.0.entries) }
+    ensures made { IfOk result (λ r. PortsMade P.made ports.new.items r.0) }
+    ensures runs { IfOk result (λ r. AreMaximalRuns (page_state r.0.boot (calls_of r.0.boot r.0.entries)) r.1) }
+    ensures within { IfOk result (λ r. EndInMemory r.1) }
+    ensures stop { IfErr result (λ stop. BootFails P.made P.faults ports.old.items ports.new.items input.map stop) }
+{
+    let world = boot_on_first(alloc, &input.map, ports)?;
+    Ok(turns_on_first(alloc, world, input.script, ports)?)
+}
+
+/// Reads the files, boots the map, and runs the script. It ends before that where a file is refused or couldn't be read, where boot
+/// stops, or for want of memory.
 pub(crate) fn run<F: Files, P: Port>(
     alloc: Global,
     names: &Names<'_>,
@@ -56,17 +120,20 @@ pub(crate) fn run<F: Files, P: Port>(
 ) -> Result<(Recorded, Runs), Stop>
     requires some { 0 < length ports.old.items }
     requires unmade { All (λ port. P.made port ≡ []) ports.old.items }
+    ensures good { OnOk result (AreGood (F.holds files.old) (seen names.now)) }
     ensures booted { IfOk result (λ r. BootedBy (F.holds files.old) (seen names.now) r.0) }
     ensures history { IfOk result (λ r. History [] r.0) }
     ensures accepted_once { IfOk result (λ r. AcceptedOnce r.0.boot r.0.entries) }
+    ensures untouched { IfOk result (λ r. Untouched r.0.boot r.0.scripts r.0.entries) }
+    ensures disjoint { IfOk result (λ r. Disjoint r.0.entries) }
+    ensures bytes { IfOk result (λ r. BytesTold r.0.boot r.0.scripts r.0.entries) }
+    ensures full { IfOk result (λ r. FullOnlyWhereFull r.0.boot r.0.scripts r.0.entries) }
     ensures calls { IfOk result (λ r. PortsMade P.made ports.new.items r.0) }
     ensures runs { IfOk result (λ r. AreMaximalRuns (page_state r.0.boot (calls_of r.0.boot r.0.entries)) r.1) }
     ensures within { IfOk result (λ r. EndInMemory r.1) }
-    ensures not_read { IfErr result (λ stop. IsNotRead stop → Rose (F.faults files.old) (F.faults files.new)) }
+    ensures asked { OnOk result (F.asked files.new ≡ F.asked files.old ++ names_to (seen names.now) InputFile.Script) }
+    ensures stop { IfErr result (λ stop. Stopped (F.holds files.old) (seen names.now) (F.faults files.old) (F.faults files.new) (F.asked files.old) (F.asked files.new) (BootStops P.made P.faults ports.old.items ports.new.items (F.holds files.old) (seen names.now)) stop) }
 {
     let input = read_input(alloc, files, names)?;
-    let Some(world) = boot(alloc, &input.map)? else {
-        return Err(Stop::Refused(InputFile::Map, Cause::Later));
-    };
-    Ok(turns_on_first(alloc, world, input.script, ports)?)
+    run_input(alloc, input, ports)
 }

@@ -1,11 +1,14 @@
 //! Why a run ends before its text.
 ghost use Rattle.std.specs.Prelude.{◌≡◌, ◌≢◌, ◌++◌, codes, string_bytes, IfOk};
 ghost use Rattle.guest_run.specs.declared.stop.Stop.TheVariants.{NoMemory};
-ghost use Rattle.guest_run.specs.Stops.{map_fault_text, cause_text, refused_line, not_read_line, status_of, stop_line};
+ghost use Rattle.guest_run.specs.Stops.{map_fault_text, script_fault_text, why_text, cause_text, refused_line, not_read_line, status_of, stop_line};
+ghost use Rattle.guest_run.specs.Causes.{limit_of};
 ghost use Rattle.guest_run.specs.Views.{seen};
 
 use crate::words::Names;
 use efi_map::MapFault;
+use guest_base::limits::{MAX_MAP_BYTES, MAX_ORDER_BYTES, MAX_SCRIPT_BYTES};
+use guest_script::{ScriptFault, Why};
 use std::alloc::{AllocError, Global};
 
 /// A file that the words name.
@@ -25,6 +28,8 @@ pub(crate) enum Cause {
     Later,
     /// It isn't a map file.
     OfMap(MapFault),
+    /// It isn't a script file.
+    OfScript(ScriptFault),
 }
 
 /// Why a run ends before its text.
@@ -34,8 +39,23 @@ pub(crate) enum Stop {
     Refused(InputFile, Cause),
     /// The file couldn't be read.
     NotRead(InputFile),
+    /// Boot stopped at a page, where the secure module failed.
+    Module,
     /// Want of memory.
     NoMemory,
+}
+
+impl InputFile {
+    /// The most bytes that the file may have.
+    pub(crate) fn limit(self) -> u64
+        ensures { result ≡ limit_of self }
+    {
+        match self {
+            InputFile::Order => MAX_ORDER_BYTES,
+            InputFile::Map => MAX_MAP_BYTES,
+            InputFile::Script => MAX_SCRIPT_BYTES,
+        }
+    }
 }
 
 impl Stop {
@@ -46,6 +66,7 @@ impl Stop {
         match self {
             Stop::Refused(_, _) => 3,
             Stop::NotRead(_) => 4,
+            Stop::Module => 7,
             Stop::NoMemory => 6,
         }
     }
@@ -79,6 +100,35 @@ fn print_map_fault(alloc: Global, fault: MapFault) -> Result<String, AllocError>
     }
 }
 
+/// What is wrong with a line of a script, in a word.
+fn why_word(why: Why) -> &'static str
+    ensures { result.now ≡ why_text why }
+{
+    match why {
+        Why::Word => "word",
+        Why::Number => "number",
+        Why::Hex => "hex",
+        Why::Arity => "arity",
+        Why::TooLong => "long",
+        Why::NotUtf8 => "utf8",
+    }
+}
+
+/// What is wrong with a script file.
+fn print_script_fault(alloc: Global, fault: ScriptFault) -> Result<String, AllocError>
+    ensures { IfOk result (λ text. string_bytes text ≡ script_fault_text fault) }
+{
+    match fault {
+        ScriptFault::Line(number, why) => {
+            let word = why_word(why);
+            format!(in alloc; "line {number} {word}")
+        }
+        ScriptFault::TooManyLines => String::from_str(alloc, "too many lines"),
+        ScriptFault::TooManyBytes => String::from_str(alloc, "too many bytes"),
+        ScriptFault::NoMemory => String::from_str(alloc, "memory"),
+    }
+}
+
 /// Why a file is refused, in words.
 fn print_cause(alloc: Global, cause: Cause) -> Result<String, AllocError>
     ensures { IfOk result (λ text. string_bytes text ≡ cause_text cause) }
@@ -87,6 +137,7 @@ fn print_cause(alloc: Global, cause: Cause) -> Result<String, AllocError>
         Cause::TooLong => String::from_str(alloc, "too long"),
         Cause::Later => String::from_str(alloc, "later"),
         Cause::OfMap(fault) => print_map_fault(alloc, fault),
+        Cause::OfScript(fault) => print_script_fault(alloc, fault),
     }
 }
 
@@ -98,6 +149,7 @@ pub(crate) fn print_stop(alloc: Global, names: &Names<'_>, stop: Stop) -> Result
     match stop {
         Stop::Refused(file, cause) => print_refused(alloc, names.of(file), cause),
         Stop::NotRead(file) => print_not_read(alloc, names.of(file)),
+        Stop::Module => String::from_str(alloc, "failed: boot\n"),
         Stop::NoMemory => Err(AllocError),
     }
 }

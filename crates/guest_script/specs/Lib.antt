@@ -1,5 +1,4 @@
 pub mod Number
-pub mod First
 pub mod Words
 pub mod Arguments
 pub mod Answers

@@ -1,21 +1,11 @@
 //! Why a script isn't read.
 
 ghost use Rattle.std.specs.Prelude.{◌≡◌};
-ghost use Rattle.guest_script.specs.declared.fault.FirstScriptFault.TheVariants.{NoMemory};
 ghost use Rattle.guest_script.specs.declared.fault.LineFault.TheVariants.{Why as LineWhy, NoMemory as LineNoMemory};
 ghost use Rattle.guest_script.specs.declared.fault.ScriptFault.TheVariants.{NoMemory as ScriptNoMemory};
 
 use std::alloc::{AllocError, AllocFailed};
 use thiserror::Error;
-
-/// Why a script isn't one of accept and query lines.
-#[derive(Clone, Copy, Debug, PartialEq, Eq)]
-pub enum FirstScriptFault {
-    /// Some line isn't such a line, or there are more than 2,048.
-    Later,
-    /// Want of memory.
-    NoMemory,
-}
 
 /// What is wrong with a line of a script.
 #[derive(Clone, Copy, Debug, PartialEq, Eq)]
@@ -64,14 +54,6 @@ impl From<Why> for LineFault {
 
     fn from(why: Why) -> LineFault {
         LineFault::Why(why)
-    }
-}
-
-impl<T: Drop> From<AllocFailed<T>> for FirstScriptFault {
-    ghost from_gives = { λ _ e. e ≡ NoMemory };
-
-    fn from(_e: AllocFailed<T>) -> FirstScriptFault {
-        FirstScriptFault::NoMemory
     }
 }
 

@@ -4,7 +4,6 @@
 mod arguments;
 mod command;
 mod fault;
-mod first;
 mod hex_digits;
 mod lines;
 mod name;
@@ -14,8 +13,7 @@ mod script;
 mod verb;
 mod words;
 
-pub use fault::{FirstScriptFault, ScriptFault, Why};
-pub use first::read_first;
+pub use fault::{ScriptFault, Why};
 pub use hex_digits::read_hex;
 pub use name::read_name;
 pub use number::read_number;

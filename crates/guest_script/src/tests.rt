@@ -6,7 +6,7 @@ use std::test::Fail;
 #[test]
 fn accept_and_query(rt: HostRuntime) -> Result<(), Fail> {
     let text = b"accept 0x400000 0x1000\nquery 0 4096\n";
-    let script = read_first(rt.alloc(), text)?;
+    let script = read_script(rt.alloc(), text)?;
     assert_eq!(rt; script.len(), 2);
     assert!(rt;
         matches!(
@@ -24,18 +24,6 @@ fn accept_and_query(rt: HostRuntime) -> Result<(), Fail> {
         )
     );
     Ok(())
-}
-
-#[test]
-fn later_scripts(rt: HostRuntime) {
-    for text in [
-        b"accept 0 1".as_slice(),
-        b"accept  0 1\n".as_slice(),
-        b"free a\n".as_slice(),
-        b"\n".as_slice(),
-    ] {
-        assert!(rt; matches!(read_first(rt.alloc(), text), Err(FirstScriptFault::Later)));
-    }
 }
 
 #[test]

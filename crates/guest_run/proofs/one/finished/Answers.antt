@@ -1,30 +1,24 @@
-use Rattle.std.proofs.Common.{◌≡◌, List, [], ◌∷◌, sym, subst, refl, rules, None, length}
-use Rattle.std.proofs.lemmas.List.Elements.{recursion_from_All}
-use Rattle.event_core.specs.declared.command.Command.{Command}
+use Rattle.std.proofs.Common.{rules, ◌≡◌, [], ◌∷◌, length}
 use Rattle.event_core.specs.Calls.{calls_of}
 use Rattle.event_core.specs.MemoryRows.{page_state}
-use Rattle.event_core.specs.Legal.{Whole}
-use Rattle.event_core.specs.Turns.{Turned}
-use Rattle.guest_run.specs.First.{IsFirstCommand}
-use Rattle.guest_run.specs.Kept.{bits_in, table_of}
-use Rattle.guest_run.proofs.TurnsLemmas.{whole-one, turned-one, maximal-of}
+use Rattle.guest_run.proofs.TurnsLemmas.{none-open, calls-are, states-are, history-of, maximal-of}
 use Rattle.guest_run.proofs.one.finished.Goals as goal
 
-pub returns-clause-whole : goal.returns-clause-whole
-returns-clause-whole c =
-    let p = c.args.processor in
-    let scripts : c.try_push.new.self ≡ p.script ∷ [] = search rules in
-    let P : List (List Command) → Type 0 = λ s. Whole p.boot s p.entries in
-    subst P (sym scripts) (whole-one p.boot p.script p.entries (length p.script) None (table_of p.memory) (bits_in p.memory.bits) c.requires.ready.1.at refl)
+pub runs-requires : goal.runs-requires
+runs-requires c = c.into_parts-table.ensures.none_out (none-open c.args.processor (length c.args.processor.script) c.requires.first c.requires.ready)
 
-pub returns-clause-turned : goal.returns-clause-turned
-returns-clause-turned c =
+pub returns-clause-history : goal.returns-clause-history
+returns-clause-history c =
     let p = c.args.processor in
     let scripts : c.try_push.new.self ≡ p.script ∷ [] = search rules in
-    let P : List (List Command) → Type 0 = λ s. Turned p.boot s [] p.entries in
-    subst P (sym scripts) (turned-one p.boot p.script p.entries (length p.script) None (table_of p.memory) (bits_in p.memory.bits) (recursion_from_All IsFirstCommand p.script c.requires.first) c.requires.ready.1.at)
+    history-of p c.try_push.new.self c.requires.first c.requires.ready scripts
+
+pub returns-clause-calls : goal.returns-clause-calls
+returns-clause-calls c = calls-are c.args.processor (length c.args.processor.script) c.requires.ready
 
 pub returns-clause-runs : goal.returns-clause-runs
 returns-clause-runs c =
     let p = c.args.processor in
-    maximal-of (page_state p.boot (calls_of p.boot p.entries)) p.memory.table.runs c.in_ok-runs.runs c.in_ok-runs.ensures c.requires.ready.1.at.stands.states
+    let table = c.into_parts-table.result.0 in
+    let states = c.into_parts-table.ensures.states (none-open p (length p.script) c.requires.first c.requires.ready) in
+    maximal-of (page_state p.boot (calls_of p.boot p.entries)) table.runs c.in_ok-runs.runs c.in_ok-runs.ensures (states-are p (length p.script) table.runs c.requires.ready states)

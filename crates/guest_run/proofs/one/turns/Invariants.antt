@@ -1,10 +1,11 @@
 use Rattle.std.proofs.Common.{◌≡◌}
-use Rattle.guest_run.specs.Ready.{Ready}
+use Rattle.guest_run.specs.Ready.{Ready, calls_by_now}
 use Rattle.guest_run.proofs.one.turns.Given as goal
 
 abbrev pub invariant-loop-number : goal.invariant-loop-number
 invariant-loop-number g l = record {
-  ready : Ready l.processor l.number (g.P.Port.made l.port);
+  ready : Ready l.processor l.number;
+  made : g.P.Port.made l.port ≡ calls_by_now l.processor;
   boot : l.processor.boot ≡ l.fn.world.boot;
   script : l.processor.script ≡ l.fn.script;
 }

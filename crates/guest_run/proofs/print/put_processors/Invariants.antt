@@ -3,11 +3,13 @@ use Rattle.guest_io.specs.Writing.{appended}
 use Rattle.event_core.specs.Turns.{numbers_from}
 use Rattle.event_core.specs.Texts.{processors_text}
 use Rattle.guest_run.specs.Replies.{replies_of, replies_of_each}
+use Rattle.guest_run.proofs.PrintLemmas.{Sent}
 use Rattle.guest_run.proofs.print.put_processors.Given as goal
 
 -- what is written, and the sections that are left
 abbrev pub invariant-loop-cpu : goal.invariant-loop-cpu
 invariant-loop-cpu g l = record {
+  cut : Sent (g.K.Sink.written l.fn.out) (g.K.Sink.written l.out) (processors_text l.cpu (map (λ cpu. replies_of cpu l.entries) (numbers_from l.cpu (l.cpus - l.cpu)))) (processors_text 0 (replies_of_each l.cpus l.entries));
   text : appended (g.K.Sink.written l.out) (processors_text l.cpu (map (λ cpu. replies_of cpu l.entries) (numbers_from l.cpu (l.cpus - l.cpu)))) ≡ appended (g.K.Sink.written l.fn.out) (processors_text 0 (replies_of_each l.cpus l.entries));
   faults : g.K.Sink.faults l.fn.out ≤ g.K.Sink.faults l.out;
 }

@@ -1,10 +1,10 @@
-use Rattle.std.proofs.Common.{◌≡◌, []}
-use Rattle.event_core.specs.Boot.{BootRight}
-use Rattle.guest_run.proofs.RunLemmas.{once_of, within_of, of_some}
+use Rattle.guest_run.specs.Views.{seen}
+use Rattle.guest_run.proofs.InputLemmas.{booted_of}
+use Rattle.guest_run.proofs.EndLemmas.{boot_stop_of}
 use Rattle.guest_run.proofs.run.run.Goals as goal
 
-pub returns-clause-accepted_once : goal.returns-clause-accepted_once
-returns-clause-accepted_once g c = once_of c.in_ok-input.input.map.descriptors c.in_ok-input.input.map.hosts c.in-Some.world.boot c.in_ok-turns_on_first.field-0.0 c.in_ok-input.input.script c.in_ok-input.ensures.first c.in_ok-turns_on_first.ensures.boot c.in_ok-turns_on_first.ensures.scripts (of_some (λ w. BootRight c.in_ok-input.input.map.descriptors c.in_ok-input.input.map.hosts 0 1 1 w.boot) c.in_ok-world.field-0 c.in-Some.world c.in-Some.is c.in_ok-world.ensures.right) (of_some (λ w. w.boot.calls ≡ []) c.in_ok-world.field-0 c.in-Some.world c.in-Some.is c.in_ok-world.ensures.calls) c.in_ok-turns_on_first.ensures.history
+pub returns-clause-booted : goal.returns-clause-booted
+returns-clause-booted g c = booted_of (g.F.Files.holds c.args.files.now) (seen c.args.names.now) c.in_ok-input.input.map c.in_ok-input.input.script c.run_input.result c.in_ok-input.ensures.good c.in_ok-input.ensures.map c.in_ok-input.ensures.script c.run_input.ensures.right c.run_input.ensures.scripts
 
-pub returns-clause-within : goal.returns-clause-within
-returns-clause-within g c = within_of c.in_ok-input.input.map.descriptors c.in_ok-input.input.map.hosts c.in-Some.world.boot c.in_ok-turns_on_first.field-0.0 c.in_ok-input.input.script c.in_ok-turns_on_first.field-0.1 c.in_ok-input.ensures.first c.in_ok-input.ensures.rules c.in_ok-turns_on_first.ensures.boot c.in_ok-turns_on_first.ensures.scripts (of_some (λ w. BootRight c.in_ok-input.input.map.descriptors c.in_ok-input.input.map.hosts 0 1 1 w.boot) c.in_ok-world.field-0 c.in-Some.world c.in-Some.is c.in_ok-world.ensures.right) (of_some (λ w. w.boot.calls ≡ []) c.in_ok-world.field-0 c.in-Some.world c.in-Some.is c.in_ok-world.ensures.calls) c.in_ok-turns_on_first.ensures.history c.in_ok-turns_on_first.ensures.runs
+pub returns-clause-stop : goal.returns-clause-stop
+returns-clause-stop g c = boot_stop_of g.P.Port.made g.P.Port.faults c.args.ports.now.items c.run_input.new.ports.items (g.F.Files.holds c.args.files.now) (seen c.args.names.now) (g.F.Files.faults c.args.files.now) (g.F.Files.faults c.read_input.new.files) (g.F.Files.asked c.args.files.now) (g.F.Files.asked c.read_input.new.files) c.in_ok-input.input.map c.run_input.result c.in_ok-input.ensures.good c.in_ok-input.ensures.map c.in_ok-input.ensures.asked c.run_input.ensures.stop

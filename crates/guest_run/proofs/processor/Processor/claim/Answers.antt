@@ -1,29 +1,42 @@
-use Rattle.std.proofs.Common.{◌≡◌, ◌+◌, ◌++◌, ◌∷◌, [], Option, None, sym, subst, ap, ◌∙◌, length}
-use Rattle.guest_base.specs.declared.memory.Units.{Units}
-use Rattle.event_core.specs.declared.reply.Reply.{Reply}
-use Rattle.event_core.specs.declared.entry.Entry.{Entry}
+use Rattle.std.proofs.Common.{Option, None, sym, ◌∙◌, ap, subst, refl}
+use Rattle.event_core.specs.declared.entry.Turn.{Turn}
 use Rattle.event_core.specs.declared.entry.Place.TheVariants as place
 use Rattle.event_core.specs.declared.event.Event.TheVariants as event
+use Rattle.event_core.specs.declared.reply.Reply.{Reply}
+use Rattle.event_core.specs.MemoryRows.{run_of_claim}
+use Rattle.event_core.specs.Units.{guarded_units}
+use Rattle.memory_core.specs.Answers.{BegunBy, IsBlocked}
+use Rattle.memory_core.specs.Steps.{Appends}
+use Rattle.memory_core.specs.declared.memory.Begin.{Begin}
 use Rattle.guest_run.specs.declared.processor.Processor.{Processor}
-use Rattle.guest_run.specs.Ready.{ClaimedOr}
-use Rattle.guest_run.proofs.AtLemmas.{claim_made}
-use Rattle.guest_run.proofs.ReadyLemmas.{ready-claim, with_entry}
+use Rattle.guest_run.specs.Ready.{EndsOr, next_turn}
+use Rattle.guest_run.proofs.ReadyLemmas.{last-small, ready-room, ready-claim, never-blocked, with_entry}
 use Rattle.guest_run.proofs.processor.Processor.claim.Goals as goal
 
+pub take_room-requires : goal.take_room-requires
+take_room-requires c = last-small c.args.self.now c.args.number c.turn-turn.result.clock c.args.self.now.memory c.requires.ready (sym (ap (λ (t : Turn). t.clock) c.turn-turn.ensures.turn)) c.turn-turn.ensures.clock refl
+
+pub begin_accept-requires-clause-last : goal.begin_accept-requires-clause-last
+begin_accept-requires-clause-last c = last-small c.args.self.now c.args.number c.turn-turn.result.clock c.take_room.new.memory c.requires.ready (sym (ap (λ (t : Turn). t.clock) c.turn-turn.ensures.turn)) c.turn-turn.ensures.clock c.take_room.ensures.kept
+
+pub span_of_claim-span-requires : goal.span_of_claim-span-requires
+span_of_claim-span-requires c blocked =
+    let p : Processor = record c.args.self.now { memory = c.take_room.new.memory } in
+    never-blocked p c.args.number c.begin_accept.new.self c.turn-turn.result (guarded_units p.memory.boot c.args.start c.args.len) c.begin_accept.result (ready-room c.args.self.now c.args.number c.take_room.new.memory c.requires.ready c.take_room.ensures.kept) c.begin_accept.ensures.begun blocked
+
 pub returns-clause-goes_on : goal.returns-clause-goes_on
-returns-clause-goes_on c made ready =
-    let p = c.args.self.now in
-    let units = c.guarded_units_of-units.result in
-    let run = c.first_run_of-run.result in
-    let is : c.add.new.self ≡ with_entry p p.memory c.args.number (claim_made units run) =
-    c.in_ok-add.ensures
-    ∙ ap (λ (r : Option Reply).
-    let q : Processor = record {
-      boot = p.boot;
-      script = p.script;
-      memory = p.memory;
-      entries = p.entries ++ (let x : Entry = record { stamp = length p.entries + 1; cpu = record { 0 = 0 }; cmd = c.args.number; place = place.Memory; event = event.Claim None units run; reply = r } in x) ∷ [];
-    } in q) c.reply_of_claim.ensures in
-    let P : Processor → Type 0 = λ q. ClaimedOr q c.args.number made c.both_of.result in
-    let Q : Option (Units × Units) → Type 0 = ClaimedOr (with_entry p p.memory c.args.number (claim_made units run)) c.args.number made in
-    subst P (sym is) (subst Q (sym c.both_of.ensures) (ready-claim p c.args.number c.args.start c.args.len made units run ready c.requires.command c.requires.fine c.guarded_units_of-units.ensures.units c.first_run_of-run.ensures))
+returns-clause-goes_on c =
+    let p : Processor = record c.args.self.now { memory = c.take_room.new.memory } in
+    let ready = ready-room c.args.self.now c.args.number c.take_room.new.memory c.requires.ready c.take_room.ensures.kept in
+    let guarded = guarded_units p.memory.boot c.args.start c.args.len in
+    let P : Processor → Type 0 = λ q. EndsOr q c.args.number c.span_of_claim-span.result in
+    let A : Turn → Type 0 = λ t. Appends p.memory c.begin_accept.new.self t c.begin_accept.new.turn (event.Claim None guarded (run_of_claim p.memory.boot p.memory.entries guarded)) in
+    let B : Turn → Type 0 = λ t. BegunBy p.memory c.begin_accept.new.self t guarded c.begin_accept.result in
+    let C : Begin → Type 0 = BegunBy p.memory c.begin_accept.new.self (next_turn p c.args.number) guarded in
+    let R : Option Reply → Type 0 = λ r. EndsOr (with_entry p c.begin_accept.new.self c.begin_accept.new.turn.clock c.args.number place.Memory (event.Claim None c.claim_units-units.result c.run_of-run.result) r) c.args.number c.span_of_claim-span.result in
+    let units = c.claim_units-units.ensures.units ∙ ap (λ m. guarded_units m.boot c.args.start c.args.len) (sym c.take_room.ensures.kept) in
+    let unblocked = λ (b : IsBlocked c.begin_accept.result). never-blocked p c.args.number c.begin_accept.new.self c.turn-turn.result guarded c.begin_accept.result ready c.begin_accept.ensures.begun b in
+    subst P (sym c.in_ok-add.ensures)
+    (subst R (sym c.reply_of_claim.ensures)
+    (ready-claim p c.args.number c.args.start c.args.len c.begin_accept.new.self c.begin_accept.new.turn c.claim_units-units.result c.run_of-run.result c.span_of_claim-span.result ready c.requires.command c.requires.fine units
+    (subst C c.span_of_claim-span.ensures (subst B c.turn-turn.ensures.turn c.begin_accept.ensures.begun)) c.run_of-run.ensures (subst A c.turn-turn.ensures.turn (c.begin_accept.ensures.appends unblocked))))

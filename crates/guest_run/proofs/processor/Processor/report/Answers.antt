@@ -1,54 +1,59 @@
-use Rattle.std.proofs.Common.{◌≡◌, ℕ, ◌+◌, ◌++◌, ◌∷◌, [], Option, sym, ◌∙◌, ap, subst, arith, length}
-use Rattle.guest_base.specs.declared.memory.Units.{Units}
-use Rattle.event_core.specs.declared.reply.Reply.{Reply}
-use Rattle.event_core.specs.declared.entry.Entry.{Entry}
-use Rattle.event_core.specs.declared.entry.Place.TheVariants as place
+use Rattle.std.proofs.Common.{◌≡◌, ◌++◌, ◌<◌, Option, sym, ◌∙◌, ap, subst}
+use Rattle.std.specs.Prelude.{IfSome}
+use Rattle.event_core.specs.declared.entry.Turn.{Turn}
 use Rattle.event_core.specs.declared.event.Event.TheVariants as event
-use Rattle.event_core.specs.Calls.{calls_of}
-use Rattle.guest_run.specs.declared.processor.Processor.{Processor}
-use Rattle.guest_run.specs.Kept.{bits_in}
-use Rattle.guest_run.specs.Ready.{EndsOr}
-use Rattle.guest_run.proofs.ReadyLemmas.{report-goes, next_by, with_entry, reported, next-further}
+use Rattle.event_core.specs.MemoryRows.{report_event}
+use Rattle.page_module.specs.Spans.{Taken}
+use Rattle.memory_core.specs.Answers.{ReportedBy}
+use Rattle.memory_core.specs.Steps.{Appends, pages_of}
+use Rattle.guest_run.specs.Answered.{IsRunOf}
+use Rattle.guest_run.proofs.ReadyLemmas.{claiming-report, report-added, report-whole, report-further, calls-reported, claim-has}
 use Rattle.guest_run.proofs.processor.Processor.report.Goals as goal
-use Rattle.guest_run.proofs.processor.Processor.report.Goals.{in-None, in-Some}
+
+pub run_of-requires-clause-whole : goal.run_of-requires-clause-whole
+run_of-requires-clause-whole g c =
+    let p = c.args.self.now in
+    let claiming = c.requires.claiming in
+    let has = claim-has p c.args.number c.args.span c.turn-turn.result claiming c.turn-turn.ensures.turn in
+    let appends = c.report.ensures.appends claiming.claim has in
+    let W : Option Taken → Type 0 = λ o. IfSome o (λ s. (units : _) × (s.ticket.pages ≡ pages_of p.boot units)) in
+    subst W (sym c.after_report-next.ensures.next)
+    (report-whole p.boot p.memory c.report.new.self c.turn-turn.result claiming.claim c.in_ok-calls.calls c.report.result (appends.boot ∙ claiming.same) (c.report.ensures.reported claiming.claim has))
 
 pub returns-clause-goes_on : goal.returns-clause-goes_on
 returns-clause-goes_on g c =
     let p = c.args.self.now in
-    let w = c.in_ok-worked.worked in
-    let e = c.in_ok-worked.ensures in
     let claiming = c.requires.claiming in
-    let calls = calls_of p.boot p.entries in
-    let memory = c.accept_units.new.memory in
-    let stands = claiming.at.stands in
-    let next : Option Units = c.match-worked.next in
-    let is_next : next ≡ next_by (bits_in memory.bits) c.args.units c.args.run w.stopped =
-    elim c.match-worked.branch [
-      | in-None w' ↦ w'.next-is ∙ w'.run_from-next.ensures ∙ sym (ap (next_by (bits_in memory.bits) c.args.units c.args.run) w'.in-None.is)
-      | in-Some w' ↦ w'.next-is ∙ sym (ap (next_by (bits_in memory.bits) c.args.units c.args.run) w'.in-Some.is)
-    ] in
-    let more : ℕ = c.args.cleared.now + w.cleared in
-    let goes = report-goes p c.args.number c.args.cleared.now more c.args.units c.args.run (g.P.Port.made c.args.port.now) (g.P.Port.made c.accept_units.new.port) w.calls memory w.stopped next claiming
-    (e.accepts calls stands) (e.stands calls stands) e.kept (ap (λ n. c.args.cleared.now + n) (e.cleared calls stands)) (let few = e.few in omega arith) e.stopped is_next e.made in
-    let made : c.add.new.self ≡ with_entry p memory c.args.number (reported c.args.run w.calls w.stopped next more) =
-    c.in_ok-add.ensures
-    ∙ ap (λ (r : Option Reply).
-    let q : Processor = record {
-      boot = p.boot;
-      script = p.script;
-      memory = memory;
-      entries = p.entries ++ (let x : Entry = record { stamp = length p.entries + 1; cpu = record { 0 = 0 }; cmd = c.args.number; place = place.Memory; event = event.Report c.args.run w.calls w.stopped next; reply = r } in x) ∷ [];
-    } in q) c.reply_of_report-reply.ensures in
-    let P : Processor → Type 0 = λ q. EndsOr q c.args.number c.args.units more (g.P.Port.made c.accept_units.new.port) next in
-    subst P (sym made) goes
+    let calls = c.in_ok-calls.calls in
+    let memory = c.report.new.self in
+    let turned = c.report.new.turn in
+    let next = c.run_of.result in
+    let has = claim-has p c.args.number c.args.span c.turn-turn.result claiming c.turn-turn.ensures.turn in
+    let A : Turn → Type 0 = λ t. Appends p.memory memory t turned (report_event p.memory.boot claiming.claim calls) in
+    let B : Turn → Type 0 = λ t. ReportedBy p.memory memory t claiming.claim calls c.report.result in
+    let N : Option Taken → Type 0 = λ o. IsRunOf p.boot o next in
+    let goes = claiming-report p c.args.number memory turned c.args.span c.accept_span.new.span c.units_of-run.result calls c.in_ok-copy.copy c.stopped_page.result c.report.result next claiming
+    (sym c.pages.ensures.value ∙ c.units_of-run.ensures) c.in_ok-calls.ensures.accepts c.in_ok-copy.ensures (c.stopped_page.ensures ∙ sym c.in_ok-calls.ensures.stop)
+    (subst B c.turn-turn.ensures.turn (c.report.ensures.reported claiming.claim has)) (subst N c.after_report-next.ensures.next c.run_of.ensures) (subst A c.turn-turn.ensures.turn (c.report.ensures.appends claiming.claim has)) in
+    report-added p c.add.new.self c.args.number turned.clock memory (event.Report c.units_of-run.result c.in_ok-copy.copy c.stopped_page.result next) c.after_report-next.result.1 c.report.result c.after_report-next.result.0 c.in_ok-add.ensures c.after_report-next.ensures.reply c.after_report-next.ensures.next goes
 
 pub returns-clause-further : goal.returns-clause-further
 returns-clause-further g c =
-    let w = c.in_ok-worked.worked in
-    let memory = c.accept_units.new.memory in
-    let next : Option Units = c.match-worked.next in
-    next-further (bits_in memory.bits) c.args.units c.args.run w.stopped next
-    (elim c.match-worked.branch [
-      | in-None w' ↦ w'.next-is ∙ w'.run_from-next.ensures ∙ sym (ap (next_by (bits_in memory.bits) c.args.units c.args.run) w'.in-None.is)
-      | in-Some w' ↦ w'.next-is ∙ sym (ap (next_by (bits_in memory.bits) c.args.units c.args.run) w'.in-Some.is)
-    ])
+    let p = c.args.self.now in
+    let claiming = c.requires.claiming in
+    let has = claim-has p c.args.number c.args.span c.turn-turn.result claiming c.turn-turn.ensures.turn in
+    let appends = c.report.ensures.appends claiming.claim has in
+    let W : Option Taken → Type 0 = λ o. IfSome o (λ s. c.args.span.ticket.pages.first < s.ticket.pages.first) in
+    subst W (sym c.after_report-next.ensures.next)
+    (report-further p.boot p.memory c.report.new.self c.turn-turn.result claiming.claim c.in_ok-calls.calls c.report.result c.args.span claiming.same (appends.boot ∙ claiming.same) claiming.booted.some claiming.some
+    (claiming.out.has.pages ∙ ap (λ b. pages_of b claiming.claim.run) claiming.same) (c.report.ensures.reported claiming.claim has))
+
+pub returns-clause-made : goal.returns-clause-made
+returns-clause-made g c was =
+    let p = c.args.self.now in
+    let claiming = c.requires.claiming in
+    let calls = c.in_ok-calls.calls in
+    let has = claim-has p c.args.number c.args.span c.turn-turn.result claiming c.turn-turn.ensures.turn in
+    let appends = c.report.ensures.appends claiming.claim has in
+    let after = calls-reported p c.add.new.self c.args.number c.report.new.turn.clock c.report.new.self c.turn-turn.result c.report.new.turn (event.Report c.units_of-run.result c.in_ok-copy.copy c.stopped_page.result c.run_of.result) c.after_report-next.result.1 claiming.claim calls c.in_ok-add.ensures appends in
+    c.in_ok-calls.ensures.made ∙ ap (λ l. l ++ calls) was ∙ sym after

@@ -1,13 +1,14 @@
-use Rattle.std.proofs.Common.{◌≡◌, ◌+◌, ◌-◌}
-use Rattle.guest_run.specs.Ready.{Claiming}
+use Rattle.std.proofs.Common.{◌≡◌, ◌^◌, ◌-◌}
+use Rattle.guest_run.specs.Ready.{Claiming, calls_by_now}
 use Rattle.guest_run.proofs.processor.Processor.report_all.Given as goal
 
 abbrev pub invariant-loop-next : goal.invariant-loop-next
 invariant-loop-next g l = record {
-  claiming : Claiming l.self l.number l.units l.run l.cleared (g.P.Port.made l.port);
+  claiming : Claiming l.self l.number l.span;
+  made : g.P.Port.made l.port ≡ calls_by_now l.self;
   boot : l.self.boot ≡ l.fn.self.boot;
   script : l.self.script ≡ l.fn.self.script;
 }
 
 abbrev pub decreases-loop-next : goal.decreases-loop-next
-decreases-loop-next g l = l.units.first + l.units.count - l.run.first
+decreases-loop-next g l = 2 ^ 28 - l.span.ticket.pages.first

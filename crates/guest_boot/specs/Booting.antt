@@ -1,0 +1,55 @@
+use Rattle.std.specs.Prelude.{ℕ, List, [], ◌∷◌, ◌++◌, Option, None, Some, Bool, true, false, ◌≡◌, if◌then◌else◌}
+use Rattle.guest_base.specs.Ranges.{in_range}
+use Rattle.guest_base.specs.declared.memory.HostRun.{HostRun}
+use Rattle.guest_base.specs.declared.memory.Pages.{Pages}
+use Rattle.guest_base.specs.declared.memory.Units.{Units}
+use Rattle.guest_base.specs.declared.memory.PageState.TheVariants.{Pending}
+use Rattle.event_core.specs.declared.boot.Boot.{Boot}
+use Rattle.event_core.specs.declared.module_call.ModuleCall.{ModuleCall}
+use Rattle.event_core.specs.Boot.{runs_from}
+use Rattle.event_core.specs.Calls.{SoundCalls}
+use Rattle.event_core.specs.MemoryRows.{page_state}
+use Rattle.event_core.specs.Runs.{state_in as first_state_of}
+use Rattle.event_core.specs.Units.{bit_of, unit_first, unit_pages, units_end}
+use Rattle.page_module.specs.Spans.{Taken}
+use Rattle.page_module.specs.States.{state_in}
+use Rattle.page_module.specs.Tables.{Table}
+use Rattle.accept_sizes.specs.Accepts.{Accepts}
+use Rattle.memory_core.specs.Bitmaps.{BitsAfter}
+use Rattle.memory_core.specs.Booted.{MarksArePending}
+use Rattle.guest_boot.specs.declared.accept.Kept.{Kept}
+
+-- What is kept of a guest while it boots.
+
+-- What is kept stands for the calls made so far: the states of pages and the bits of units are those after them, no page is out,
+-- and each call found its pages in the state that it needs.
+pub record StandsAfter (boot : Boot) (done : List ModuleCall) (kept : Kept) : Type 0 where
+  pub states : (page : ℕ) → state_in kept.table.runs page ≡ page_state boot done page
+  pub none_out : kept.table.out ≡ []
+  pub bits : BitsAfter boot done kept.bits
+  pub marks : MarksArePending boot done
+  pub sound : SoundCalls (first_state_of boot.ram) done
+  pub calls : kept.calls.items ≡ done
+
+-- calls were made behind those before, and P holds of them
+abbrev pub Grew : List ModuleCall → List ModuleCall → (List ModuleCall → Type 0) → Type 0
+Grew before after P = (now : List ModuleCall) × (after ≡ before ++ now) × P now
+
+-- the runs of units that pass a test, among some
+abbrev pub runs_in : (ℕ → Bool) → Option Units → List Units
+runs_in test None = []
+runs_in test (Some units) = runs_from test units.count units.first (units_end units)
+
+-- pages that are pending at first, of which none is one of an unaccepted unit
+pub record IsEarly (boot : Boot) (pages : Pages) : Type 0 where
+  pub pending : (page : ℕ) → in_range pages.first pages.count page ≡ true → first_state_of boot.ram page ≡ Some Pending
+  pub apart : (unit page : ℕ) → bit_of boot.bits unit ≡ true → in_range (unit_first boot unit) (unit_pages boot) page ≡ true → in_range pages.first pages.count page ≡ false
+
+-- the pages were taken out of the table, and are out in the span after the calls that accepted those that were pending
+pub record AcceptedOut (hosts : List HostRun) (old new : Table) (pages : Pages) (span : Taken) (calls : List ModuleCall) : Type 0 where
+  pub taken : Taken
+  pub pages_are : taken.ticket.pages ≡ pages
+  pub states : (page : ℕ) → state_in taken.runs page ≡ (if in_range pages.first pages.count page then state_in old.runs page else None)
+  pub rest : (page : ℕ) → state_in new.runs page ≡ (if in_range pages.first pages.count page then None else state_in old.runs page)
+  pub out : new.out ≡ taken.ticket ∷ []
+  pub accepts : Accepts hosts taken span calls

@@ -1,0 +1,103 @@
+//! The cut of RAM into blocks, after the page allocator.
+ghost use Rattle.std.specs.Prelude.{◌≡◌, ◌++◌, ◌+◌, ◌^◌, ◌<◌, ◌≤◌, IfOk, OnOk, All};
+ghost use Rattle.std.specs.List.{flat_map};
+ghost use Rattle.guest_base.specs.declared.memory.Block.{Block as BlockValue};
+ghost use Rattle.event_core.specs.Cut.{pages_end, joined, ram_ranges, may_stand, order_at, blocks_of};
+ghost use Rattle.event_core.specs.Runs.{run_end};
+
+use event_core::Runs;
+use guest_base::limits::MAX_ORDER;
+use guest_base::{Block, PageRun, Pages};
+use std::alloc::{AllocError, Global};
+
+/// The blocks into which RAM is cut, rising: of each maximal range of RAM pages, whatever their states, at each place the block of
+/// the greatest order up to 10 that may stand there. The runs rise; it fails only for want of memory.
+pub(crate) fn cut_blocks(alloc: Global, ram: &Runs) -> Result<Vec<Block>, AllocError>
+    requires low { All (λ run. run_end run ≤ 2 ^ 28) ram.now }
+    ensures blocks { IfOk result (λ blocks. blocks.items ≡ flat_map blocks_of (ram_ranges ram.now)) }
+    ensures orders { IfOk result (λ blocks. All (λ (b : BlockValue). b.order ≤ 10) blocks.items) }
+    ensures ends { IfOk result (λ blocks. All (λ (b : BlockValue). b.first + 2 ^ b.order ≤ 2 ^ 28) blocks.items) }
+{
+    let mut blocks = Vec::new(alloc);
+    for range in &ranges(alloc, ram.as_slice())? {
+        push_blocks(&mut blocks, *range)?;
+    }
+    Ok(blocks)
+}
+
+/// The maximal ranges of pages of these runs, whatever their states.
+fn ranges(alloc: Global, runs: &[PageRun]) -> Result<Vec<Pages>, AllocError>
+    requires { All (λ run. run_end run ≤ 2 ^ 28) runs.now }
+    ensures { IfOk result (λ ranges. ranges.items ≡ ram_ranges runs.now) }
+{
+    match runs {
+        [] => Ok(Vec::new(alloc)),
+        [first, others @ ..] => ranges_from(alloc, first.pages, others),
+    }
+}
+
+/// The maximal ranges of pages of a range and the runs behind it.
+fn ranges_from(alloc: Global, first: Pages, others: &[PageRun]) -> Result<Vec<Pages>, AllocError>
+    requires first { pages_end first ≤ 2 ^ 28 }
+    requires others { All (λ run. run_end run ≤ 2 ^ 28) others.now }
+    ensures { IfOk result (λ ranges. ranges.items ≡ joined first (ram_ranges others.now)) }
+{
+    let mut ranges = Vec::new(alloc);
+    let mut last = first;
+    for next in others {
+        if last.first + last.count == next.pages.first {
+            last.count += next.pages.count;
+        } else {
+            ranges.push(last)?;
+            last = next.pages;
+        }
+    }
+    ranges.push(last)?;
+    Ok(ranges)
+}
+
+/// Adds the blocks of a range at the end.
+fn push_blocks(blocks: &mut Vec<Block>, range: Pages) -> Result<(), AllocError>
+    requires { pages_end range ≤ 2 ^ 28 }
+    ensures { OnOk result (blocks.new.items ≡ blocks.old.items ++ blocks_of range) }
+{
+    let mut first = range.first;
+    let mut left = range.count;
+    while left > 0 {
+        let order = order_at(first, left);
+        blocks.push(Block { first, order })?;
+        first += block_pages(order);
+        left -= block_pages(order);
+    }
+    Ok(())
+}
+
+/// The greatest order up to 10 of a block that may stand at a page, with `left` pages from there on.
+fn order_at(first: u64, left: u64) -> u32
+    requires { 0 < left }
+    ensures order { result ≡ order_at first left 10 }
+    ensures most { result ≤ 10 }
+    ensures fits { 2 ^ result ≤ left }
+{
+    let mut order = MAX_ORDER;
+    while order > 0 && !may_stand(first, left, order) {
+        order -= 1;
+    }
+    order
+}
+
+/// Whether a block of the order may stand at a page, with `left` pages from there on.
+fn may_stand(first: u64, left: u64, order: u32) -> bool
+    requires { order ≤ 10 }
+    ensures { result ≡ may_stand first left order }
+{
+    first % block_pages(order) == 0 && block_pages(order) <= left
+}
+
+/// The pages of a block of the order.
+fn block_pages(order: u32) -> u64
+    requires { order ≤ 10 }
+    ensures { result ≡ 2 ^ order }
+{
+    1 << order
+}

@@ -1,0 +1,164 @@
+//! The stages of boot.
+ghost use Rattle.std.specs.Prelude.{◌≡◌, ℕ, ◌+◌, ◌^◌, ◌<◌, ◌≤◌, Some, None, Err, All, IfOk, OnOk};
+ghost use Rattle.guest_base.specs.Counts.{Rose};
+ghost use Rattle.guest_base.specs.declared.memory.Block.{Block as BlockValue};
+ghost use Rattle.guest_base.specs.declared.memory.Page.{Page as PageValue};
+ghost use Rattle.guest_base.specs.declared.memory.PageRun.{PageRun as PageRunValue};
+ghost use Rattle.event_core.specs.Boot.{InTurn, AcceptsPiece, AcceptsRange, AcceptsBlock};
+ghost use Rattle.memory_core.specs.Bitmaps.{bits_in, guarded_by};
+ghost use Rattle.memory_core.specs.Booted.{IsBooted};
+ghost use Rattle.guest_boot.specs.Booting.{StandsAfter, Grew, IsEarly, runs_in};
+
+use crate::accept::{Kept, accept_piece, accept_units};
+use crate::fault::BootFault;
+use event_core::Boot;
+use guest_base::limits::{MAX_ORDER, PAGE_BYTES};
+use guest_base::{Block, PageRun, Unit, Units};
+use page_module::Port;
+use std::alloc::{AllocError, Global};
+use unaccepted_bitmap::Bitmap;
+
+/// Accepts the early pieces, one after another.
+pub(crate) fn accept_early<P: Port>(
+    alloc: Global,
+    boot: &Boot,
+    kept: &mut Kept,
+    port: &mut P,
+    pieces: &[PageRun],
+) -> Result<(), BootFault>
+    requires booted { IsBooted boot.now }
+    requires stands { StandsAfter boot.now (P.made port.old) kept.old }
+    requires early { All (λ (piece : PageRunValue). IsEarly boot.now piece.pages) pieces.now }
+    ensures stands { OnOk result (StandsAfter boot.now (P.made port.new) kept.new) }
+    ensures made { OnOk result (Grew (P.made port.old) (P.made port.new)
+        (λ now. InTurn (λ before (piece : PageRunValue). AcceptsPiece boot.now before piece.pages) (P.made port.old) pieces.now now None)) }
+    ensures stopped { (page : PageValue) → result ≡ Err (BootFault.Module page) → Grew (P.made port.old) (P.made port.new)
+        (λ now. InTurn (λ before (piece : PageRunValue). AcceptsPiece boot.now before piece.pages) (P.made port.old) pieces.now now (Some page)) }
+    ensures failed { (page : PageValue) → result ≡ Err (BootFault.Module page) → Rose (P.faults port.old) (P.faults port.new) }
+    ensures faults { P.faults port.old ≤ P.faults port.new }
+{
+    for piece in pieces {
+        accept_piece(alloc, boot, kept, port, piece.pages)?;
+    }
+    Ok(())
+}
+
+/// The runs of unaccepted units among the guarded ones of a range of bytes, rising.
+fn unaccepted_runs(
+    alloc: Global,
+    bits: &Option<Bitmap>,
+    start: u64,
+    len: u64,
+) -> Result<Vec<Units>, AllocError>
+    requires some { 1 ≤ len }
+    requires end { start + len ≤ 2 ^ 40 }
+    ensures { IfOk result (λ runs. runs.items ≡ runs_in (bits_in bits.now) (guarded_by bits.now start len)) }
+{
+    match bits {
+        Some(bits) => match bits.claim_units(start, len) {
+            Some(units) => runs_of(alloc, bits, units),
+            None => Ok(Vec::new(alloc)),
+        },
+        None => Ok(Vec::new(alloc)),
+    }
+}
+
+/// The runs of unaccepted units among some, rising.
+fn runs_of(alloc: Global, bits: &Bitmap, units: Units) -> Result<Vec<Units>, AllocError>
+    requires { units.first + units.count < 2 ^ 64 }
+    ensures { IfOk result (λ runs. runs.items ≡ runs_in (bits_in (Some bits.now)) (Some units)) }
+{
+    let end = units.first + units.count;
+    let mut runs = Vec::new(alloc);
+    let mut from = units.first;
+    while let Some(run) = bits.next_run(Unit(from), Unit(end)) {
+        from = run.first + run.count;
+        runs.push(run)?;
+    }
+    Ok(runs)
+}
+
+/// Accepts the guarded units of `len` bytes from the address `start` on, run by run.
+fn accept_range<P: Port>(
+    alloc: Global,
+    boot: &Boot,
+    kept: &mut Kept,
+    port: &mut P,
+    start: u64,
+    len: u64,
+) -> Result<(), BootFault>
+    requires some { 1 ≤ len }
+    requires end { start + len ≤ 2 ^ 40 }
+    requires booted { IsBooted boot.now }
+    requires stands { StandsAfter boot.now (P.made port.old) kept.old }
+    ensures stands { OnOk result (StandsAfter boot.now (P.made port.new) kept.new) }
+    ensures made { OnOk result (Grew (P.made port.old) (P.made port.new) (λ now. AcceptsRange boot.now (P.made port.old) start len now None)) }
+    ensures stopped { (page : PageValue) → result ≡ Err (BootFault.Module page)
+        → Grew (P.made port.old) (P.made port.new) (λ now. AcceptsRange boot.now (P.made port.old) start len now (Some page)) }
+    ensures failed { (page : PageValue) → result ≡ Err (BootFault.Module page) → Rose (P.faults port.old) (P.faults port.new) }
+    ensures faults { P.faults port.old ≤ P.faults port.new }
+{
+    let runs = unaccepted_runs(alloc, &kept.bits, start, len)?;
+    for run in runs.as_slice() {
+        accept_units(alloc, boot, kept, port, *run)?;
+    }
+    Ok(())
+}
+
+/// Accepts a block, unless it is one of 4 MiB, which waits where it isn't accepted.
+fn accept_block<P: Port>(
+    alloc: Global,
+    boot: &Boot,
+    kept: &mut Kept,
+    port: &mut P,
+    block: Block,
+) -> Result<(), BootFault>
+    requires order { block.order ≤ 10 }
+    requires low { block.first + 2 ^ block.order ≤ 2 ^ 28 }
+    requires booted { IsBooted boot.now }
+    requires stands { StandsAfter boot.now (P.made port.old) kept.old }
+    ensures stands { OnOk result (StandsAfter boot.now (P.made port.new) kept.new) }
+    ensures made { OnOk result (Grew (P.made port.old) (P.made port.new) (λ now. AcceptsBlock boot.now (P.made port.old) block now None)) }
+    ensures stopped { (page : PageValue) → result ≡ Err (BootFault.Module page)
+        → Grew (P.made port.old) (P.made port.new) (λ now. AcceptsBlock boot.now (P.made port.old) block now (Some page)) }
+    ensures failed { (page : PageValue) → result ≡ Err (BootFault.Module page) → Rose (P.faults port.old) (P.faults port.new) }
+    ensures faults { P.faults port.old ≤ P.faults port.new }
+{
+    if block.order == MAX_ORDER {
+        return Ok(());
+    }
+    let pages = block.pages();
+    accept_range(
+        alloc,
+        boot,
+        kept,
+        port,
+        PAGE_BYTES * pages.first,
+        PAGE_BYTES * pages.count,
+    )
+}
+
+/// Accepts the blocks below 4 MiB, one after another.
+pub(crate) fn accept_blocks<P: Port>(
+    alloc: Global,
+    boot: &Boot,
+    kept: &mut Kept,
+    port: &mut P,
+    blocks: &[Block],
+) -> Result<(), BootFault>
+    requires orders { All (λ (b : BlockValue). b.order ≤ 10) blocks.now }
+    requires low { All (λ (b : BlockValue). b.first + 2 ^ b.order ≤ 2 ^ 28) blocks.now }
+    requires booted { IsBooted boot.now }
+    requires stands { StandsAfter boot.now (P.made port.old) kept.old }
+    ensures stands { OnOk result (StandsAfter boot.now (P.made port.new) kept.new) }
+    ensures made { OnOk result (Grew (P.made port.old) (P.made port.new) (λ now. InTurn (AcceptsBlock boot.now) (P.made port.old) blocks.now now None)) }
+    ensures stopped { (page : PageValue) → result ≡ Err (BootFault.Module page)
+        → Grew (P.made port.old) (P.made port.new) (λ now. InTurn (AcceptsBlock boot.now) (P.made port.old) blocks.now now (Some page)) }
+    ensures failed { (page : PageValue) → result ≡ Err (BootFault.Module page) → Rose (P.faults port.old) (P.faults port.new) }
+    ensures faults { P.faults port.old ≤ P.faults port.new }
+{
+    for block in blocks {
+        accept_block(alloc, boot, kept, port, *block)?;
+    }
+    Ok(())
+}

@@ -1,0 +1,89 @@
+ghost use Rattle.std.specs.Prelude.{IfOk};
+ghost use Rattle.event_core.specs.Map.{MapRules};
+
+use crate::{BootFault, boot};
+use efi_map::{GuestMap, read_map};
+use event_core::{CallKind, ModuleCall, PortAnswer};
+use guest_base::{Level, Page, Unit, Units};
+use page_module::MemPort;
+use std::alloc::Global;
+use std::test::Fail;
+
+/// The map with these descriptors, each of them a type, a start in bytes and a number of pages.
+fn map_of(alloc: Global, descriptors: &[(u32, u64, u64)]) -> Result<GuestMap, Fail>
+    ensures { IfOk result (λ map. MapRules map.descriptors map.hosts) }
+{
+    let mut bytes = Vec::from_slice(alloc, b"GMAP")?;
+    bytes.extend_from_slice(&[40, 0, 0, 0, 1, 0, 0, 0])?;
+    bytes.extend_from_slice(&(descriptors.len() as u64).to_le_bytes()[..4])?;
+    for (kind, start, pages) in descriptors {
+        bytes.extend_from_slice(&u64::from(*kind).to_le_bytes())?;
+        bytes.extend_from_slice(&start.to_le_bytes())?;
+        bytes.extend_from_slice(&[0; 8])?;
+        bytes.extend_from_slice(&pages.to_le_bytes())?;
+        bytes.extend_from_slice(&[0; 8])?;
+    }
+    bytes.extend_from_slice(&[0; 4])?;
+    Ok(read_map(alloc, bytes.as_slice())?)
+}
+
+fn accepted(first: u64, level: Level) -> ModuleCall {
+    ModuleCall {
+        kind: CallKind::Accept,
+        first,
+        count: level.pages(),
+        level,
+        answer: PortAnswer::Ok,
+    }
+}
+
+#[test]
+fn whole_blocks_wait(rt: HostRuntime) -> Result<(), Fail> {
+    let alloc = rt.alloc();
+    let map = map_of(alloc, &[(7, 0, 1024), (15, 0x40_0000, 2048)])?;
+    let mut port = MemPort::new(alloc, Vec::new(alloc));
+    let world = boot(alloc, &map, 4, 2, &mut port).ok().ok_or("no world")?;
+    assert!(rt; world.boot.calls.is_empty());
+    assert_eq!(rt; (world.boot.areas, world.boot.cpus), (4, 2));
+    let units = Units { first: 0, count: 4 };
+    assert_eq!(rt; world.memory.next_run(Unit(0), Unit(8)), Some(units));
+    Ok(())
+}
+
+#[test]
+fn short_descriptors_are_accepted(rt: HostRuntime) -> Result<(), Fail> {
+    let alloc = rt.alloc();
+    let map = map_of(alloc, &[(7, 0, 1024), (15, 0x40_0000, 1023)])?;
+    let mut port = MemPort::new(alloc, Vec::new(alloc));
+    let world = boot(alloc, &map, 1, 1, &mut port).ok().ok_or("no world")?;
+    let mut calls = vec![in alloc; accepted(0x400, Level::Large)]?;
+    for page in 0x600..0x7ff {
+        calls.push(accepted(page, Level::Small))?;
+    }
+    assert_eq!(rt; world.boot.calls.as_slice(), calls.as_slice());
+    assert_eq!(rt; world.memory.next_run(Unit(0), Unit(8)), None);
+    Ok(())
+}
+
+#[test]
+fn small_blocks_are_accepted(rt: HostRuntime) -> Result<(), Fail> {
+    let alloc = rt.alloc();
+    let map = map_of(alloc, &[(15, 0x40_0000, 2560)])?;
+    let mut port = MemPort::new(alloc, Vec::new(alloc));
+    let world = boot(alloc, &map, 1, 1, &mut port).ok().ok_or("no world")?;
+    let calls = [accepted(0xc00, Level::Large)];
+    assert_eq!(rt; world.boot.calls.as_slice(), calls.as_slice());
+    let units = Units { first: 0, count: 4 };
+    assert_eq!(rt; world.memory.next_run(Unit(0), Unit(8)), Some(units));
+    Ok(())
+}
+
+#[test]
+fn stops_where_the_module_fails(rt: HostRuntime) -> Result<(), Fail> {
+    let alloc = rt.alloc();
+    let map = map_of(alloc, &[(15, 0x40_0000, 1023)])?;
+    let mut port = MemPort::new(alloc, vec![in alloc; 3]?);
+    let fault = boot(alloc, &map, 1, 1, &mut port).err().ok_or("a world")?;
+    assert_eq!(rt; fault, BootFault::Module(Page(0x601)));
+    Ok(())
+}

@@ -1,0 +1,198 @@
+use Rattle.std.proofs.Common.{◌≡◌, ℕ, ◌<◌, ◌⊎◌, List, ◌++◌, Option, None, Some, refl, sym, ◌∙◌, ap, subst, inl, inr, arith}
+use Rattle.std.specs.Prelude.{Result, Ok, Err, IfErr}
+use Rattle.guest_base.specs.Counts.{Rose}
+use Rattle.event_core.specs.declared.module_call.ModuleCall.{ModuleCall}
+use Rattle.guest_run.specs.declared.stop.Cause.{Cause}
+use Rattle.guest_run.specs.declared.stop.InputFile.{InputFile}
+use Rattle.guest_run.specs.declared.stop.InputFile.TheVariants.{Order, Map, Script}
+use Rattle.guest_run.specs.declared.stop.Stop.{Stop}
+use Rattle.guest_run.specs.declared.stop.Stop.TheVariants.{Refused, NotRead, Module, NoMemory}
+use Rattle.guest_run.specs.Causes.{cause_of, IsGood, IsToldGood, IsRefused, IsToldRefused}
+use Rattle.guest_run.specs.Endings.{names_to, first_faults, AreGood, AreToldGood, AsksFront, BootStops, IsMapOf, Put, PutFront, RefusesFirstOf, SaysRefused, SaysNotRead, SaysBootStopped}
+use Rattle.guest_run.specs.Ends.{IsKnown}
+use Rattle.guest_run.specs.Stopping.{BootFails, EndsWith, StopEnds, Stopped}
+use Rattle.guest_run.specs.Stops.{name_of, refused_line, boot_line, stop_line, status_of}
+use Rattle.guest_run.specs.Words.{Named}
+use Rattle.guest_run.proofs.InputLemmas.{front_to}
+use Rattle.efi_map.specs.declared.map.GuestMap.{GuestMap}
+
+-- ---- a file that is refused, and what is told
+
+no_cause : {A : Type 0} (cause : Cause) (of : Option Cause) → of ≡ Some cause → of ≡ None → A
+no_cause cause of some none = let no : Some cause ≡ None = sym some ∙ none in cc
+
+-- a file that is told to be good isn't refused
+told_good : {A : Type 0} (holds : List ℕ → Option (List ℕ)) (named : Named) (file : InputFile) (cause : Cause) → IsRefused holds named file cause → IsToldGood holds named file → A
+told_good holds named file cause refused good = no_cause cause (cause_of file good.0) (refused.own good.0 good.1) good.2
+
+-- a file that is good wherever it is told isn't told to be refused
+pub good_told : {A : Type 0} (holds : List ℕ → Option (List ℕ)) (named : Named) (file : InputFile) (cause : Cause) → IsGood holds named file → IsToldRefused holds named file cause → A
+good_told holds named file cause good refused = no_cause cause (cause_of file refused.bytes) refused.own (good refused.bytes refused.told)
+
+-- only one file is the first that is refused, for one cause
+same_cause : (holds : List ℕ → Option (List ℕ)) (named : Named) (file : InputFile) (a b : Cause) → IsRefused holds named file a → IsToldRefused holds named file b → a ≡ b
+same_cause holds named file a b refused told = let e : Some a ≡ Some b = sym (refused.own told.bytes told.told) ∙ told.own in cc
+
+same_first : (holds : List ℕ → Option (List ℕ)) (named : Named) (at file : InputFile) (a b : Cause) → IsRefused holds named at a → IsToldRefused holds named file b → (at ≡ file) × (a ≡ b)
+same_first holds named Order Order a b refused told = (refl, same_cause holds named Order a b refused told)
+same_first holds named Order Map a b refused told = told_good holds named Order a refused told.before
+same_first holds named Order Script a b refused told = told_good holds named Order a refused told.before.0
+same_first holds named Map Order a b refused told = good_told holds named Order b refused.before told
+same_first holds named Map Map a b refused told = (refl, same_cause holds named Map a b refused told)
+same_first holds named Map Script a b refused told = told_good holds named Map a refused told.before.1
+same_first holds named Script Order a b refused told = good_told holds named Order b refused.before.0 told
+same_first holds named Script Map a b refused told = good_told holds named Map b refused.before.1 told
+same_first holds named Script Script a b refused told = (refl, same_cause holds named Script a b refused told)
+
+-- ---- a line
+
+put_of : (before after : Option (List ℕ)) (sink_before sink_after : ℕ) (line : List ℕ) (status ended : ℕ) → EndsWith before after sink_before sink_after line status ended → ended ≡ status → (5 ≡ status → ⊥) → (6 ≡ status → ⊥) → Put before after line
+put_of before after sink_before sink_after line status ended (inl h) is five six = h.1
+put_of before after sink_before sink_after line status ended (inr (inl h)) is five six = absurd (five (sym h.0 ∙ is))
+put_of before after sink_before sink_after line status ended (inr (inr h)) is five six = absurd (six (sym h ∙ is))
+
+front_of : (before after : Option (List ℕ)) (sink_before sink_after : ℕ) (line : List ℕ) (status ended : ℕ) → EndsWith before after sink_before sink_after line status ended → ended ≡ 5 → (status ≡ 5 → ⊥) → Rose sink_before sink_after × PutFront before after line
+front_of before after sink_before sink_after line status ended (inl h) is five = absurd (five (sym h.0 ∙ is))
+front_of before after sink_before sink_after line status ended (inr (inl h)) is five = (h.1, h.2)
+front_of before after sink_before sink_after line status ended (inr (inr h)) is five = absurd (omega (arith, h, is))
+
+never : {A : Type 0} (before after : Option (List ℕ)) (sink_before sink_after : ℕ) (line : List ℕ) (status ended other : ℕ) → EndsWith before after sink_before sink_after line status ended → ended ≡ other → (status ≡ other → ⊥) → (5 ≡ other → ⊥) → (6 ≡ other → ⊥) → A
+never before after sink_before sink_after line status ended other (inl h) is apart five six = absurd (apart (sym h.0 ∙ is))
+never before after sink_before sink_after line status ended other (inr (inl h)) is apart five six = absurd (five (sym h.0 ∙ is))
+never before after sink_before sink_after line status ended other (inr (inr h)) is apart five six = absurd (six (sym h ∙ is))
+
+known_with : (before after : Option (List ℕ)) (sink_before sink_after : ℕ) (line : List ℕ) (status ended : ℕ) → IsKnown status → EndsWith before after sink_before sink_after line status ended → IsKnown ended
+known_with before after sink_before sink_after line status ended known (inl h) = subst IsKnown (sym h.0) known
+known_with before after sink_before sink_after line status ended known (inr (inl h)) = inr (inr (inr (inr (inl h.0))))
+known_with before after sink_before sink_after line status ended known (inr (inr h)) = inr (inr (inr (inr (inr (inl h)))))
+
+three_or : (before after : Option (List ℕ)) (sink_before sink_after : ℕ) (line : List ℕ) (ended : ℕ) → EndsWith before after sink_before sink_after line 3 ended → ((ended ≡ 3) × Put before after line) ⊎ (ended ≡ 5) ⊎ (ended ≡ 6)
+three_or before after sink_before sink_after line ended (inl h) = inl h
+three_or before after sink_before sink_after line ended (inr (inl h)) = inr (inl h.0)
+three_or before after sink_before sink_after line ended (inr (inr h)) = inr (inr h)
+
+-- ---- how a stop ends
+
+-- status 3
+pub refused_of : {P : Type 0} (made : P → List ModuleCall) (faults : P → ℕ) (ports_before ports_after : List P) (holds : List ℕ → Option (List ℕ)) (named : Named) (faults_before faults_after : ℕ) (asked_before asked_after : List (List ℕ)) (before after : Option (List ℕ)) (sink_before sink_after : ℕ) (stop : Stop) (ended : ℕ) → Stopped holds named faults_before faults_after asked_before asked_after (BootStops made faults ports_before ports_after holds named) stop → StopEnds before after sink_before sink_after named stop ended → ended ≡ 3 → SaysRefused holds (Put before after) named
+refused_of made faults ports_before ports_after holds named faults_before faults_after asked_before asked_after before after sink_before sink_after (Refused file cause) ended stopped ends is = (file, cause, stopped.0, put_of before after sink_before sink_after (stop_line named (Refused file cause)) 3 ended ends is (λ e. omega (arith, e)) (λ e. omega (arith, e)))
+refused_of made faults ports_before ports_after holds named faults_before faults_after asked_before asked_after before after sink_before sink_after (NotRead file) ended stopped ends is = never before after sink_before sink_after (stop_line named (NotRead file)) 4 ended 3 ends is (λ e. omega (arith, e)) (λ e. omega (arith, e)) (λ e. omega (arith, e))
+refused_of made faults ports_before ports_after holds named faults_before faults_after asked_before asked_after before after sink_before sink_after Module ended stopped ends is = never before after sink_before sink_after boot_line 7 ended 3 ends is (λ e. omega (arith, e)) (λ e. omega (arith, e)) (λ e. omega (arith, e))
+refused_of made faults ports_before ports_after holds named faults_before faults_after asked_before asked_after before after sink_before sink_after NoMemory ended stopped ends is = absurd (omega (arith, ends, is))
+
+-- status 4
+pub not_read_of : {P : Type 0} (made : P → List ModuleCall) (faults : P → ℕ) (ports_before ports_after : List P) (holds : List ℕ → Option (List ℕ)) (named : Named) (faults_before faults_after : ℕ) (asked_before asked_after : List (List ℕ)) (before after : Option (List ℕ)) (sink_before sink_after : ℕ) (stop : Stop) (ended : ℕ) → Stopped holds named faults_before faults_after asked_before asked_after (BootStops made faults ports_before ports_after holds named) stop → StopEnds before after sink_before sink_after named stop ended → ended ≡ 4 → SaysNotRead faults_before faults_after asked_before asked_after (Put before after) named
+not_read_of made faults ports_before ports_after holds named faults_before faults_after asked_before asked_after before after sink_before sink_after (Refused file cause) ended stopped ends is = never before after sink_before sink_after (stop_line named (Refused file cause)) 3 ended 4 ends is (λ e. omega (arith, e)) (λ e. omega (arith, e)) (λ e. omega (arith, e))
+not_read_of made faults ports_before ports_after holds named faults_before faults_after asked_before asked_after before after sink_before sink_after (NotRead file) ended stopped ends is = (file, stopped.0, stopped.1, put_of before after sink_before sink_after (stop_line named (NotRead file)) 4 ended ends is (λ e. omega (arith, e)) (λ e. omega (arith, e)))
+not_read_of made faults ports_before ports_after holds named faults_before faults_after asked_before asked_after before after sink_before sink_after Module ended stopped ends is = never before after sink_before sink_after boot_line 7 ended 4 ends is (λ e. omega (arith, e)) (λ e. omega (arith, e)) (λ e. omega (arith, e))
+not_read_of made faults ports_before ports_after holds named faults_before faults_after asked_before asked_after before after sink_before sink_after NoMemory ended stopped ends is = absurd (omega (arith, ends, is))
+
+-- status 7
+pub boot_stopped_of : {P : Type 0} (made : P → List ModuleCall) (faults : P → ℕ) (ports_before ports_after : List P) (holds : List ℕ → Option (List ℕ)) (named : Named) (faults_before faults_after : ℕ) (asked_before asked_after : List (List ℕ)) (before after : Option (List ℕ)) (sink_before sink_after : ℕ) (stop : Stop) (ended : ℕ) → Stopped holds named faults_before faults_after asked_before asked_after (BootStops made faults ports_before ports_after holds named) stop → StopEnds before after sink_before sink_after named stop ended → ended ≡ 7 → SaysBootStopped made faults ports_before ports_after holds (Put before after) named
+boot_stopped_of made faults ports_before ports_after holds named faults_before faults_after asked_before asked_after before after sink_before sink_after (Refused file cause) ended stopped ends is = never before after sink_before sink_after (stop_line named (Refused file cause)) 3 ended 7 ends is (λ e. omega (arith, e)) (λ e. omega (arith, e)) (λ e. omega (arith, e))
+boot_stopped_of made faults ports_before ports_after holds named faults_before faults_after asked_before asked_after before after sink_before sink_after (NotRead file) ended stopped ends is = never before after sink_before sink_after (stop_line named (NotRead file)) 4 ended 7 ends is (λ e. omega (arith, e)) (λ e. omega (arith, e)) (λ e. omega (arith, e))
+boot_stopped_of made faults ports_before ports_after holds named faults_before faults_after asked_before asked_after before after sink_before sink_after Module ended stopped ends is = (stopped.0, put_of before after sink_before sink_after boot_line 7 ended ends is (λ e. omega (arith, e)) (λ e. omega (arith, e)))
+boot_stopped_of made faults ports_before ports_after holds named faults_before faults_after asked_before asked_after before after sink_before sink_after NoMemory ended stopped ends is = absurd (omega (arith, ends, is))
+
+-- status 5
+pub cut_line_of : {P : Type 0} (made : P → List ModuleCall) (faults : P → ℕ) (ports_before ports_after : List P) (holds : List ℕ → Option (List ℕ)) (named : Named) (faults_before faults_after : ℕ) (asked_before asked_after : List (List ℕ)) (before after : Option (List ℕ)) (sink_before sink_after : ℕ) (stop : Stop) (ended : ℕ) → Stopped holds named faults_before faults_after asked_before asked_after (BootStops made faults ports_before ports_after holds named) stop → StopEnds before after sink_before sink_after named stop ended → ended ≡ 5 → SaysRefused holds (PutFront before after) named ⊎ SaysNotRead faults_before faults_after asked_before asked_after (PutFront before after) named ⊎ SaysBootStopped made faults ports_before ports_after holds (PutFront before after) named
+cut_line_of made faults ports_before ports_after holds named faults_before faults_after asked_before asked_after before after sink_before sink_after (Refused file cause) ended stopped ends is = inl (file, cause, stopped.0, (front_of before after sink_before sink_after (stop_line named (Refused file cause)) 3 ended ends is (λ e. omega (arith, e))).1)
+cut_line_of made faults ports_before ports_after holds named faults_before faults_after asked_before asked_after before after sink_before sink_after (NotRead file) ended stopped ends is = inr (inl (file, stopped.0, stopped.1, (front_of before after sink_before sink_after (stop_line named (NotRead file)) 4 ended ends is (λ e. omega (arith, e))).1))
+cut_line_of made faults ports_before ports_after holds named faults_before faults_after asked_before asked_after before after sink_before sink_after Module ended stopped ends is = inr (inr (stopped.0, (front_of before after sink_before sink_after boot_line 7 ended ends is (λ e. omega (arith, e))).1))
+cut_line_of made faults ports_before ports_after holds named faults_before faults_after asked_before asked_after before after sink_before sink_after NoMemory ended stopped ends is = absurd (omega (arith, ends, is))
+
+-- status 5 comes where a fault was counted
+pub failed_of : {P : Type 0} (made : P → List ModuleCall) (faults : P → ℕ) (ports_before ports_after : List P) (holds : List ℕ → Option (List ℕ)) (named : Named) (faults_before faults_after : ℕ) (asked_before asked_after : List (List ℕ)) (before after : Option (List ℕ)) (sink_before sink_after : ℕ) (stop : Stop) (ended : ℕ) → Stopped holds named faults_before faults_after asked_before asked_after (BootStops made faults ports_before ports_after holds named) stop → StopEnds before after sink_before sink_after named stop ended → ended ≡ 5 → Rose sink_before sink_after
+failed_of made faults ports_before ports_after holds named faults_before faults_after asked_before asked_after before after sink_before sink_after (Refused file cause) ended stopped ends is = (front_of before after sink_before sink_after (stop_line named (Refused file cause)) 3 ended ends is (λ e. omega (arith, e))).0
+failed_of made faults ports_before ports_after holds named faults_before faults_after asked_before asked_after before after sink_before sink_after (NotRead file) ended stopped ends is = (front_of before after sink_before sink_after (stop_line named (NotRead file)) 4 ended ends is (λ e. omega (arith, e))).0
+failed_of made faults ports_before ports_after holds named faults_before faults_after asked_before asked_after before after sink_before sink_after Module ended stopped ends is = (front_of before after sink_before sink_after boot_line 7 ended ends is (λ e. omega (arith, e))).0
+failed_of made faults ports_before ports_after holds named faults_before faults_after asked_before asked_after before after sink_before sink_after NoMemory ended stopped ends is = absurd (omega (arith, ends, is))
+
+-- the statuses
+pub known_of : {P : Type 0} (made : P → List ModuleCall) (faults : P → ℕ) (ports_before ports_after : List P) (holds : List ℕ → Option (List ℕ)) (named : Named) (faults_before faults_after : ℕ) (asked_before asked_after : List (List ℕ)) (before after : Option (List ℕ)) (sink_before sink_after : ℕ) (stop : Stop) (ended : ℕ) → Stopped holds named faults_before faults_after asked_before asked_after (BootStops made faults ports_before ports_after holds named) stop → StopEnds before after sink_before sink_after named stop ended → IsKnown ended
+known_of made faults ports_before ports_after holds named faults_before faults_after asked_before asked_after before after sink_before sink_after (Refused file cause) ended stopped ends = known_with before after sink_before sink_after (stop_line named (Refused file cause)) 3 ended (inr (inr (inl refl))) ends
+known_of made faults ports_before ports_after holds named faults_before faults_after asked_before asked_after before after sink_before sink_after (NotRead file) ended stopped ends = known_with before after sink_before sink_after (stop_line named (NotRead file)) 4 ended (inr (inr (inr (inl refl)))) ends
+known_of made faults ports_before ports_after holds named faults_before faults_after asked_before asked_after before after sink_before sink_after Module ended stopped ends = known_with before after sink_before sink_after boot_line 7 ended (inr (inr (inr (inr (inr (inr refl)))))) ends
+known_of made faults ports_before ports_after holds named faults_before faults_after asked_before asked_after before after sink_before sink_after NoMemory ended stopped ends = inr (inr (inr (inr (inr (inl ends)))))
+
+-- neither 0 nor 2
+pub other_of : {P : Type 0} (made : P → List ModuleCall) (faults : P → ℕ) (ports_before ports_after : List P) (holds : List ℕ → Option (List ℕ)) (named : Named) (faults_before faults_after : ℕ) (asked_before asked_after : List (List ℕ)) (before after : Option (List ℕ)) (sink_before sink_after : ℕ) (stop : Stop) (ended : ℕ) (other : ℕ) → other < 3 → Stopped holds named faults_before faults_after asked_before asked_after (BootStops made faults ports_before ports_after holds named) stop → StopEnds before after sink_before sink_after named stop ended → ended ≡ other → ⊥
+other_of made faults ports_before ports_after holds named faults_before faults_after asked_before asked_after before after sink_before sink_after (Refused file cause) ended other less stopped ends is = never before after sink_before sink_after (stop_line named (Refused file cause)) 3 ended other ends is (λ e. omega (arith, e, less)) (λ e. omega (arith, e, less)) (λ e. omega (arith, e, less))
+other_of made faults ports_before ports_after holds named faults_before faults_after asked_before asked_after before after sink_before sink_after (NotRead file) ended other less stopped ends is = never before after sink_before sink_after (stop_line named (NotRead file)) 4 ended other ends is (λ e. omega (arith, e, less)) (λ e. omega (arith, e, less)) (λ e. omega (arith, e, less))
+other_of made faults ports_before ports_after holds named faults_before faults_after asked_before asked_after before after sink_before sink_after Module ended other less stopped ends is = never before after sink_before sink_after boot_line 7 ended other ends is (λ e. omega (arith, e, less)) (λ e. omega (arith, e, less)) (λ e. omega (arith, e, less))
+other_of made faults ports_before ports_after holds named faults_before faults_after asked_before asked_after before after sink_before sink_after NoMemory ended other less stopped ends is = omega (arith, ends, is, less)
+
+-- the names that were asked for
+pub asked_of : {P : Type 0} (made : P → List ModuleCall) (faults : P → ℕ) (ports_before ports_after : List P) (holds : List ℕ → Option (List ℕ)) (named : Named) (faults_before faults_after : ℕ) (asked_before asked_after : List (List ℕ)) (before after : Option (List ℕ)) (sink_before sink_after : ℕ) (stop : Stop) (ended : ℕ) → Stopped holds named faults_before faults_after asked_before asked_after (BootStops made faults ports_before ports_after holds named) stop → AsksFront (names_to named Script) asked_before asked_after
+asked_of made faults ports_before ports_after holds named faults_before faults_after asked_before asked_after before after sink_before sink_after (Refused file cause) ended stopped = (let front = front_to named file in (front.0, stopped.1 ∙ ap (λ names. asked_before ++ names) front.1))
+asked_of made faults ports_before ports_after holds named faults_before faults_after asked_before asked_after before after sink_before sink_after (NotRead file) ended stopped = (let front = front_to named file in (front.0, stopped.1 ∙ ap (λ names. asked_before ++ names) front.1))
+asked_of made faults ports_before ports_after holds named faults_before faults_after asked_before asked_after before after sink_before sink_after Module ended stopped = (let front = front_to named Script in (front.0, stopped.1 ∙ ap (λ names. asked_before ++ names) front.1))
+asked_of made faults ports_before ports_after holds named faults_before faults_after asked_before asked_after before after sink_before sink_after NoMemory ended stopped = stopped
+
+-- a file that is told to be the first that is refused
+pub first_refused_of : {P : Type 0} (made : P → List ModuleCall) (faults : P → ℕ) (ports_before ports_after : List P) (holds : List ℕ → Option (List ℕ)) (named : Named) (faults_before faults_after : ℕ) (asked_before asked_after : List (List ℕ)) (before after : Option (List ℕ)) (sink_before sink_after : ℕ) (stop : Stop) (ended : ℕ) → Stopped holds named faults_before faults_after asked_before asked_after (BootStops made faults ports_before ports_after holds named) stop → StopEnds before after sink_before sink_after named stop ended → (Rose faults_before faults_after → ⊥) → RefusesFirstOf holds named (Put before after) ended
+first_refused_of made faults ports_before ports_after holds named faults_before faults_after asked_before asked_after before after sink_before sink_after (Refused at c) ended stopped ends kept file cause told =
+    let same = same_first holds named at file c cause stopped.0 told in
+    let L : List ℕ → Type 0 = λ line. ((ended ≡ 3) × Put before after line) ⊎ (ended ≡ 5) ⊎ (ended ≡ 6) in
+    subst L (ap (λ f. refused_line (name_of named f) c) same.0 ∙ ap (refused_line (name_of named file)) same.1) (three_or before after sink_before sink_after (stop_line named (Refused at c)) ended ends)
+first_refused_of made faults ports_before ports_after holds named faults_before faults_after asked_before asked_after before after sink_before sink_after (NotRead at) ended stopped ends kept file cause told = absurd (kept stopped.0)
+first_refused_of made faults ports_before ports_after holds named faults_before faults_after asked_before asked_after before after sink_before sink_after Module ended stopped ends kept file cause told = good_told holds named file cause (stopped.0.good file) told
+first_refused_of made faults ports_before ports_after holds named faults_before faults_after asked_before asked_after before after sink_before sink_after NoMemory ended stopped ends kept file cause told = inr (inr ends)
+
+-- good files, and no fault
+pub complete_of : {P : Type 0} (made : P → List ModuleCall) (faults : P → ℕ) (ports_before ports_after : List P) (holds : List ℕ → Option (List ℕ)) (named : Named) (faults_before faults_after : ℕ) (asked_before asked_after : List (List ℕ)) (before after : Option (List ℕ)) (sink_before sink_after : ℕ) (stop : Stop) (ended : ℕ) → Stopped holds named faults_before faults_after asked_before asked_after (BootStops made faults ports_before ports_after holds named) stop → StopEnds before after sink_before sink_after named stop ended → AreToldGood holds named → (Rose faults_before faults_after → ⊥) → (Rose (first_faults faults ports_before) (first_faults faults ports_after) → ⊥) → (ended ≡ 0) ⊎ (ended ≡ 6)
+complete_of made faults ports_before ports_after holds named faults_before faults_after asked_before asked_after before after sink_before sink_after (Refused file cause) ended stopped ends good kept port = told_good holds named file cause stopped.0 (good file)
+complete_of made faults ports_before ports_after holds named faults_before faults_after asked_before asked_after before after sink_before sink_after (NotRead file) ended stopped ends good kept port = absurd (kept stopped.0)
+complete_of made faults ports_before ports_after holds named faults_before faults_after asked_before asked_after before after sink_before sink_after Module ended stopped ends good kept port = absurd (port stopped.0.failed.rose)
+complete_of made faults ports_before ports_after holds named faults_before faults_after asked_before asked_after before after sink_before sink_after NoMemory ended stopped ends good kept port = inr ends
+
+-- a stop's line is put with its status
+pub ends_of : (before after : Option (List ℕ)) (sink_before sink_after : ℕ) (named : Named) (stop : Stop) (line : List ℕ) (status ended : ℕ) → line ≡ stop_line named stop → status ≡ status_of stop → (stop ≡ NoMemory → ⊥) → EndsWith before after sink_before sink_after line status ended → StopEnds before after sink_before sink_after named stop ended
+ends_of before after sink_before sink_after named (Refused file cause) line status ended same is some ends = subst (λ l. EndsWith before after sink_before sink_after l 3 ended) same (subst (λ s. EndsWith before after sink_before sink_after line s ended) is ends)
+ends_of before after sink_before sink_after named (NotRead file) line status ended same is some ends = subst (λ l. EndsWith before after sink_before sink_after l 4 ended) same (subst (λ s. EndsWith before after sink_before sink_after line s ended) is ends)
+ends_of before after sink_before sink_after named Module line status ended same is some ends = subst (λ l. EndsWith before after sink_before sink_after l 7 ended) same (subst (λ s. EndsWith before after sink_before sink_after line s ended) is ends)
+ends_of before after sink_before sink_after named NoMemory line status ended same is some ends = absurd (some refl)
+
+-- boot of the map file's map stopped, all files being read and good
+pub boot_stop : {P : Type 0} (made : P → List ModuleCall) (faults : P → ℕ) (ports_before ports_after : List P) (holds : List ℕ → Option (List ℕ)) (named : Named) (faults_before faults_after : ℕ) (asked_before asked_after : List (List ℕ)) (map : GuestMap) (stop : Stop) → AreGood holds named → IsMapOf holds named map → asked_after ≡ asked_before ++ names_to named Script → BootFails made faults ports_before ports_after map stop → Stopped holds named faults_before faults_after asked_before asked_after (BootStops made faults ports_before ports_after holds named) stop
+boot_stop made faults ports_before ports_after holds named faults_before faults_after asked_before asked_after map (Refused file cause) good is asked fails = absurd fails
+boot_stop made faults ports_before ports_after holds named faults_before faults_after asked_before asked_after map (NotRead file) good is asked fails = absurd fails
+boot_stop made faults ports_before ports_after holds named faults_before faults_after asked_before asked_after map Module good is asked fails = (
+  record {
+    good = good;
+    map = map;
+    same = is;
+    failed = fails;
+  },
+  asked,
+)
+boot_stop made faults ports_before ports_after holds named faults_before faults_after asked_before asked_after map NoMemory good is asked fails = (3, asked)
+
+-- the same, where there is a stop
+pub boot_stop_of : {P R : Type 0} (made : P → List ModuleCall) (faults : P → ℕ) (ports_before ports_after : List P) (holds : List ℕ → Option (List ℕ)) (named : Named) (faults_before faults_after : ℕ) (asked_before asked_after : List (List ℕ)) (map : GuestMap) (result : Result R Stop) → AreGood holds named → IsMapOf holds named map → asked_after ≡ asked_before ++ names_to named Script → IfErr result (λ stop. BootFails made faults ports_before ports_after map stop) → IfErr result (λ stop. Stopped holds named faults_before faults_after asked_before asked_after (BootStops made faults ports_before ports_after holds named) stop)
+boot_stop_of made faults ports_before ports_after holds named faults_before faults_after asked_before asked_after map (Ok r) good is asked fails = tt
+boot_stop_of made faults ports_before ports_after holds named faults_before faults_after asked_before asked_after map (Err stop) good is asked fails = boot_stop made faults ports_before ports_after holds named faults_before faults_after asked_before asked_after map stop good is asked fails
+
+-- a stop of reading is one of a run
+pub input_stop : (holds : List ℕ → Option (List ℕ)) (named : Named) (faults_before faults_after : ℕ) (asked_before asked_after : List (List ℕ)) (Boots : Type 0) (stop : Stop) → Stopped holds named faults_before faults_after asked_before asked_after ⊥ stop → Stopped holds named faults_before faults_after asked_before asked_after Boots stop
+input_stop holds named faults_before faults_after asked_before asked_after Boots (Refused file cause) stopped = stopped
+input_stop holds named faults_before faults_after asked_before asked_after Boots (NotRead file) stopped = stopped
+input_stop holds named faults_before faults_after asked_before asked_after Boots Module stopped = absurd stopped.0
+input_stop holds named faults_before faults_after asked_before asked_after Boots NoMemory stopped = stopped
+
+-- what names the words is one
+pub same_named : (words : Option Named) (a b : Named) → words ≡ Some a → words ≡ Some b → a ≡ b
+same_named words a b is that = let e : Some a ≡ Some b = sym is ∙ that in cc
+
+pub none_named : {A : Type 0} (words : Option Named) (a : Named) → words ≡ None → words ≡ Some a → A
+none_named words a none is = let no : None ≡ Some a = sym none ∙ is in cc
+
+-- the words name these files
+pub told_of_words : (holds : List ℕ → Option (List ℕ)) (words : Option Named) (named : Named) → words ≡ Some named → (other : Named) × (words ≡ Some other) × AreToldGood holds other → AreToldGood holds named
+told_of_words holds words named is told = subst (AreToldGood holds) (same_named words told.0 named told.1 is) told.2
+
+-- files that are good, with nothing in the way, end with 0, or without memory with 6
+pub all_good_of : (rose : Type 0) (ended : ℕ) → (ended ≡ 0) ⊎ (ended ≡ 5) ⊎ (ended ≡ 6) → (ended ≡ 5 → rose) → (rose → ⊥) → (ended ≡ 0) ⊎ (ended ≡ 6)
+all_good_of rose ended (inl is) failed kept = inl is
+all_good_of rose ended (inr (inl is)) failed kept = absurd (kept (failed is))
+all_good_of rose ended (inr (inr is)) failed kept = inr is

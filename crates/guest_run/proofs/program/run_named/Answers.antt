@@ -1,0 +1,18 @@
+use Rattle.guest_run.specs.Views.{seen}
+use Rattle.guest_run.proofs.EndLemmas.{first_refused_of, cut_line_of, complete_of, asked_of}
+use Rattle.guest_run.proofs.program.run_named.Goals as goal
+
+pub returns-in-Ok-clause-asked : goal.returns-in-Ok-clause-asked
+returns-in-Ok-clause-asked g c = (3, c.in-Ok.ensures.asked)
+
+pub returns-in-Err-clause-first_refused : goal.returns-in-Err-clause-first_refused
+returns-in-Err-clause-first_refused g c kept = first_refused_of g.P.Port.made g.P.Port.faults c.args.ports.now.items c.run.new.ports.items (g.F.Files.holds c.args.files.now) (seen c.args.names.now) (g.F.Files.faults c.args.files.now) (g.F.Files.faults c.run.new.files) (g.F.Files.asked c.args.files.now) (g.F.Files.asked c.run.new.files) (g.K.Sink.written c.args.out.now) (g.K.Sink.written c.end_by.new.out) (g.K.Sink.faults c.args.out.now) (g.K.Sink.faults c.end_by.new.out) c.in-Err.stop c.end_by.result.status c.in-Err.ensures.stop c.end_by.ensures.ends kept
+
+pub returns-in-Err-clause-cut_line : goal.returns-in-Err-clause-cut_line
+returns-in-Err-clause-cut_line g c is none = cut_line_of g.P.Port.made g.P.Port.faults c.args.ports.now.items c.run.new.ports.items (g.F.Files.holds c.args.files.now) (seen c.args.names.now) (g.F.Files.faults c.args.files.now) (g.F.Files.faults c.run.new.files) (g.F.Files.asked c.args.files.now) (g.F.Files.asked c.run.new.files) (g.K.Sink.written c.args.out.now) (g.K.Sink.written c.end_by.new.out) (g.K.Sink.faults c.args.out.now) (g.K.Sink.faults c.end_by.new.out) c.in-Err.stop c.end_by.result.status c.in-Err.ensures.stop c.end_by.ensures.ends is
+
+pub returns-in-Err-clause-complete : goal.returns-in-Err-clause-complete
+returns-in-Err-clause-complete g c good kept sink port = complete_of g.P.Port.made g.P.Port.faults c.args.ports.now.items c.run.new.ports.items (g.F.Files.holds c.args.files.now) (seen c.args.names.now) (g.F.Files.faults c.args.files.now) (g.F.Files.faults c.run.new.files) (g.F.Files.asked c.args.files.now) (g.F.Files.asked c.run.new.files) (g.K.Sink.written c.args.out.now) (g.K.Sink.written c.end_by.new.out) (g.K.Sink.faults c.args.out.now) (g.K.Sink.faults c.end_by.new.out) c.in-Err.stop c.end_by.result.status c.in-Err.ensures.stop c.end_by.ensures.ends good kept port
+
+pub returns-in-Err-clause-asked : goal.returns-in-Err-clause-asked
+returns-in-Err-clause-asked g c = asked_of g.P.Port.made g.P.Port.faults c.args.ports.now.items c.run.new.ports.items (g.F.Files.holds c.args.files.now) (seen c.args.names.now) (g.F.Files.faults c.args.files.now) (g.F.Files.faults c.run.new.files) (g.F.Files.asked c.args.files.now) (g.F.Files.asked c.run.new.files) (g.K.Sink.written c.args.out.now) (g.K.Sink.written c.end_by.new.out) (g.K.Sink.faults c.args.out.now) (g.K.Sink.faults c.end_by.new.out) c.in-Err.stop c.end_by.result.status c.in-Err.ensures.stop

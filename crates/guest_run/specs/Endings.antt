@@ -1,0 +1,110 @@
+use Rattle.std.specs.Prelude.{ℕ, List, [], ◌∷◌, ◌++◌, take, Option, None, Some, All, ◌≡◌, ◌⊎◌, Ok}
+use Rattle.guest_base.specs.Counts.{Rose}
+use Rattle.guest_base.specs.declared.memory.Page.{Page}
+use Rattle.event_core.specs.declared.module_call.ModuleCall.{ModuleCall}
+use Rattle.efi_map.specs.declared.map.GuestMap.{GuestMap}
+use Rattle.efi_map.specs.MapFile.{map_of}
+use Rattle.guest_io.specs.Writing.{appended, AppendsPrefix}
+use Rattle.guest_boot.specs.Stopped.{BootStopped}
+use Rattle.guest_run.specs.declared.stop.Cause.{Cause}
+use Rattle.guest_run.specs.declared.stop.InputFile.{InputFile}
+use Rattle.guest_run.specs.declared.stop.InputFile.TheVariants.{Order, Map, Script}
+use Rattle.guest_run.specs.Causes.{IsGood, IsToldGood, IsRefused, IsToldRefused}
+use Rattle.guest_run.specs.Stops.{name_of, refused_line, not_read_line, boot_line, words_line}
+use Rattle.guest_run.specs.Words.{Named, named_by}
+
+-- How a run ends before its text (own rule).
+
+-- the names of the files up to this one
+abbrev pub names_to : Named → InputFile → List (List ℕ)
+names_to named Order = named.order ∷ []
+names_to named Map = named.order ∷ named.map ∷ []
+names_to named Script = named.order ∷ named.map ∷ named.script ∷ []
+
+-- the names of the files that the words name, in their order
+abbrev pub names_of : Option Named → List (List ℕ)
+names_of None = []
+names_of (Some named) = names_to named Script
+
+-- the first of these names were asked for, and no others
+abbrev pub AsksFront : List (List ℕ) → List (List ℕ) → List (List ℕ) → Type 0
+AsksFront names before after = (count : ℕ) × (after ≡ before ++ take count names)
+
+-- the first port's calls, and its count of faults
+abbrev pub first_made : {P : Type 0} → (P → List ModuleCall) → List P → List ModuleCall
+first_made made [] = []
+first_made made (port ∷ ports) = made port
+
+abbrev pub first_faults : {P : Type 0} → (P → ℕ) → List P → ℕ
+first_faults faults [] = 0
+first_faults faults (port ∷ ports) = faults port
+
+-- no port but the first has made a call
+abbrev pub OthersUnmade : {P : Type 0} → (P → List ModuleCall) → List P → Type 0
+OthersUnmade made [] = Unit {0}
+OthersUnmade made (port ∷ ports) = All (λ port. made port ≡ []) ports
+
+-- wherever it is told what the files hold, all are good
+abbrev pub AreGood : (List ℕ → Option (List ℕ)) → Named → Type 0
+AreGood holds named = (file : InputFile) → IsGood holds named file
+
+-- the map is the map file's, wherever it is told what that holds
+abbrev pub IsMapOf : (List ℕ → Option (List ℕ)) → Named → GuestMap → Type 0
+IsMapOf holds named map = (bytes : List ℕ) → holds named.map ≡ Some bytes → map_of bytes ≡ Ok map
+
+-- boot of the map stopped at a page, where a call on the first port failed, and no other port was asked
+pub record BootFailed {P : Type 0} (made : P → List ModuleCall) (faults : P → ℕ) (before after : List P) (map : GuestMap) : Type 0 where
+  pub page : Page
+  pub stopped : BootStopped map.descriptors map.hosts 0 1 1 (first_made made after) page
+  pub rose : Rose (first_faults faults before) (first_faults faults after)
+  pub others : OthersUnmade made after
+
+-- boot of the map file's map did so, all files being good
+pub record BootStops {P : Type 0} (made : P → List ModuleCall) (faults : P → ℕ) (before after : List P) (holds : List ℕ → Option (List ℕ)) (named : Named) : Type 0 where
+  pub good : AreGood holds named
+  pub map : GuestMap
+  pub same : IsMapOf holds named map
+  pub failed : BootFailed made faults before after map
+
+-- a line was put
+abbrev pub Put : Option (List ℕ) → Option (List ℕ) → List ℕ → Type 0
+Put before after line = after ≡ appended before line
+
+-- a prefix of a line was put
+abbrev pub PutFront : Option (List ℕ) → Option (List ℕ) → List ℕ → Type 0
+PutFront before after line = AppendsPrefix before line after
+
+-- the words name files of which this holds
+abbrev pub OfWords : List (List ℕ) → (Named → Type 0) → Type 0
+OfWords words P = (named : Named) × (named_by words ≡ Some named) × P named
+
+-- The line that was put says that a file is refused for a cause, and so it is.
+abbrev pub SaysRefused : (List ℕ → Option (List ℕ)) → (List ℕ → Type 0) → Named → Type 0
+SaysRefused holds Written named = (file : InputFile) × (cause : Cause) × IsRefused holds named file cause × Written (refused_line (name_of named file) cause)
+
+-- The line says that a file couldn't be read. It was asked for last, and the count of the files' faults rose.
+abbrev pub SaysNotRead : ℕ → ℕ → List (List ℕ) → List (List ℕ) → (List ℕ → Type 0) → Named → Type 0
+SaysNotRead faults_before faults_after asked_before asked_after Written named =
+    (file : InputFile) × Rose faults_before faults_after × (asked_after ≡ asked_before ++ names_to named file) × Written (not_read_line (name_of named file))
+
+-- The line says that boot stopped, and so it did.
+abbrev pub SaysBootStopped : {P : Type 0} → (P → List ModuleCall) → (P → ℕ) → List P → List P → (List ℕ → Option (List ℕ)) → (List ℕ → Type 0) → Named → Type 0
+SaysBootStopped made faults before after holds Written named = BootStops made faults before after holds named × Written boot_line
+
+-- The line says that the words aren't in the grammar, and so it is.
+abbrev pub SaysWords : List (List ℕ) → (List ℕ → Type 0) → Type 0
+SaysWords words Written = (named_by words ≡ None) × Written words_line
+
+-- Where it is told that a file is the first that is refused, its line is put; or the status is 5 or 6.
+abbrev pub RefusesFirstOf : (List ℕ → Option (List ℕ)) → Named → (List ℕ → Type 0) → ℕ → Type 0
+RefusesFirstOf holds named Written status =
+    (file : InputFile) (cause : Cause) → IsToldRefused holds named file cause
+    → ((status ≡ 3) × Written (refused_line (name_of named file) cause)) ⊎ (status ≡ 5) ⊎ (status ≡ 6)
+
+-- the same of the files that the words name
+abbrev pub RefusesFirst : (List ℕ → Option (List ℕ)) → List (List ℕ) → (List ℕ → Type 0) → ℕ → Type 0
+RefusesFirst holds words Written status = (named : Named) → named_by words ≡ Some named → RefusesFirstOf holds named Written status
+
+-- it is told that all files are good
+abbrev pub AreToldGood : (List ℕ → Option (List ℕ)) → Named → Type 0
+AreToldGood holds named = (file : InputFile) → IsToldGood holds named file
