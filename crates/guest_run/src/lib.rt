@@ -17,4 +17,6 @@ pub use one::turns;
 pub use program::{Ended, plain, top};
 
 #[cfg(test)]
+mod guest_tests;
+#[cfg(test)]
 mod tests;

@@ -7,7 +7,7 @@ use std::alloc::{AllocError, Global};
 use std::test::Fail;
 
 /// `mem 7 0x0 1024` and `mem 15 0x400000 2048`.
-const MAP: [u8; 100] = [
+pub(crate) const MAP: [u8; 100] = [
     b'G', b'M', b'A', b'P', 40, 0, 0, 0, 1, 0, 0, 0, 2, 0, 0, 0, // the header
     7, 0, 0, 0, 0, 0, 0, 0, 0, 0, 0, 0, 0, 0, 0, 0, 0, 0, 0, 0, 0, 0, 0, 0, 0, 4, 0, 0, 0, 0, 0, 0,
     0, 0, 0, 0, 0, 0, 0, 0, 15, 0, 0, 0, 0, 0, 0, 0, 0, 0, 64, 0, 0, 0, 0, 0, 0, 0, 0, 0, 0, 0, 0,
@@ -24,7 +24,7 @@ const EARLY_MAP: [u8; 120] = [
 ];
 
 /// The files `A` and `s`, of which the reads with these numbers fail.
-fn files_of(
+pub(crate) fn files_of(
     alloc: Global,
     map: &[u8],
     script: &[u8],
@@ -36,7 +36,7 @@ fn files_of(
     Ok(MemFiles::new(alloc, files, failing))
 }
 
-fn words_of(alloc: Global) -> Result<Vec<String>, AllocError> {
+pub(crate) fn words_of(alloc: Global) -> Result<Vec<String>, AllocError> {
     let mut words = Vec::new(alloc);
     for word in ["turns", "order", "--slots", "0", "A", "s"] {
         words.push(String::from_str(alloc, word)?)?;
@@ -44,7 +44,7 @@ fn words_of(alloc: Global) -> Result<Vec<String>, AllocError> {
     Ok(words)
 }
 
-fn ports_failing(alloc: Global, failing: Vec<u64>) -> Result<Vec<MemPort>, AllocError>
+pub(crate) fn ports_failing(alloc: Global, failing: Vec<u64>) -> Result<Vec<MemPort>, AllocError>
     ensures some { IfOk result (λ ports. length ports.items ≡ 1) }
     ensures unmade { IfOk result (λ ports. All (λ port. ⟦<MemPort as Port>⟧.made port ≡ []) ports.items) }
 {
