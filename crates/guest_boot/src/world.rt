@@ -42,6 +42,7 @@ pub struct World {
 ///
 /// `Module` comes only where one of these acceptances stopped, so only where the port's count of faults rose; the port's calls are
 /// then boot's up to there.
+/// Whatever the answer, the calls that were made stay made; after want of memory they may be some of boot's.
 pub fn boot<P: Port>(
     alloc: Global,
     map: &GuestMap,

@@ -8,7 +8,7 @@ use Rattle.guest_run.specs.declared.stop.InputFile.TheVariants.{Order, Map, Scri
 use Rattle.guest_run.specs.declared.stop.Stop.{Stop}
 use Rattle.guest_run.specs.declared.stop.Stop.TheVariants.{Refused, NotRead, Module, NoMemory}
 use Rattle.guest_run.specs.Causes.{cause_of, IsGood, IsToldGood, IsRefused, IsToldRefused}
-use Rattle.guest_run.specs.Endings.{names_to, first_faults, AreGood, AreToldGood, AsksFront, BootStops, IsMapOf, Put, PutFront, RefusesFirstOf, SaysRefused, SaysNotRead, SaysBootStopped}
+use Rattle.guest_run.specs.Endings.{names_to, AreGood, AreToldGood, AsksFront, BootStops, IsMapOf, Put, PutFront, RefusesFirstOf, SaysRefused, SaysNotRead, SaysBootStopped}
 use Rattle.guest_run.specs.Ends.{IsKnown}
 use Rattle.guest_run.specs.Stopping.{BootFails, EndsWith, StopEnds, Stopped}
 use Rattle.guest_run.specs.Stops.{name_of, refused_line, boot_line, stop_line, status_of}
@@ -139,12 +139,15 @@ first_refused_of made faults ports_before ports_after holds named faults_before 
 first_refused_of made faults ports_before ports_after holds named faults_before faults_after asked_before asked_after before after sink_before sink_after Module ended stopped ends kept file cause told = good_told holds named file cause (stopped.0.good file) told
 first_refused_of made faults ports_before ports_after holds named faults_before faults_after asked_before asked_after before after sink_before sink_after NoMemory ended stopped ends kept file cause told = inr (inr ends)
 
--- good files, and no fault
-pub complete_of : {P : Type 0} (made : P → List ModuleCall) (faults : P → ℕ) (ports_before ports_after : List P) (holds : List ℕ → Option (List ℕ)) (named : Named) (faults_before faults_after : ℕ) (asked_before asked_after : List (List ℕ)) (before after : Option (List ℕ)) (sink_before sink_after : ℕ) (stop : Stop) (ended : ℕ) → Stopped holds named faults_before faults_after asked_before asked_after (BootStops made faults ports_before ports_after holds named) stop → StopEnds before after sink_before sink_after named stop ended → AreToldGood holds named → (Rose faults_before faults_after → ⊥) → (Rose (first_faults faults ports_before) (first_faults faults ports_after) → ⊥) → (ended ≡ 0) ⊎ (ended ≡ 6)
-complete_of made faults ports_before ports_after holds named faults_before faults_after asked_before asked_after before after sink_before sink_after (Refused file cause) ended stopped ends good kept port = told_good holds named file cause stopped.0 (good file)
-complete_of made faults ports_before ports_after holds named faults_before faults_after asked_before asked_after before after sink_before sink_after (NotRead file) ended stopped ends good kept port = absurd (kept stopped.0)
-complete_of made faults ports_before ports_after holds named faults_before faults_after asked_before asked_after before after sink_before sink_after Module ended stopped ends good kept port = absurd (port stopped.0.failed.rose)
-complete_of made faults ports_before ports_after holds named faults_before faults_after asked_before asked_after before after sink_before sink_after NoMemory ended stopped ends good kept port = inr ends
+-- good files, and no fault of them or of the sink
+pub complete_of : {P : Type 0} (made : P → List ModuleCall) (faults : P → ℕ) (ports_before ports_after : List P) (holds : List ℕ → Option (List ℕ)) (named : Named) (faults_before faults_after : ℕ) (asked_before asked_after : List (List ℕ)) (before after : Option (List ℕ)) (sink_before sink_after : ℕ) (stop : Stop) (ended : ℕ) → Stopped holds named faults_before faults_after asked_before asked_after (BootStops made faults ports_before ports_after holds named) stop → StopEnds before after sink_before sink_after named stop ended → AreToldGood holds named → (Rose faults_before faults_after → ⊥) → (Rose sink_before sink_after → ⊥) → (ended ≡ 0) ⊎ (ended ≡ 6) ⊎ (ended ≡ 7)
+complete_of made faults ports_before ports_after holds named faults_before faults_after asked_before asked_after before after sink_before sink_after (Refused file cause) ended stopped ends good kept sink = told_good holds named file cause stopped.0 (good file)
+complete_of made faults ports_before ports_after holds named faults_before faults_after asked_before asked_after before after sink_before sink_after (NotRead file) ended stopped ends good kept sink = absurd (kept stopped.0)
+complete_of made faults ports_before ports_after holds named faults_before faults_after asked_before asked_after before after sink_before sink_after Module ended stopped ends good kept sink = elim ends [
+  | inl put ↦ inr (inr put.0)
+  | inr cut ↦ elim cut [ inl fault ↦ absurd (sink fault.1) | inr none ↦ inr (inl none) ]
+]
+complete_of made faults ports_before ports_after holds named faults_before faults_after asked_before asked_after before after sink_before sink_after NoMemory ended stopped ends good kept sink = inr (inl ends)
 
 -- a stop's line is put with its status
 pub ends_of : (before after : Option (List ℕ)) (sink_before sink_after : ℕ) (named : Named) (stop : Stop) (line : List ℕ) (status ended : ℕ) → line ≡ stop_line named stop → status ≡ status_of stop → (stop ≡ NoMemory → ⊥) → EndsWith before after sink_before sink_after line status ended → StopEnds before after sink_before sink_after named stop ended

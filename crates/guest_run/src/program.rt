@@ -11,7 +11,7 @@ ghost use Rattle.event_core.specs.Runs.{AreMaximalRuns};
 ghost use Rattle.event_core.specs.Untouched.{Untouched};
 ghost use Rattle.guest_io.specs.Writing.{appended};
 ghost use Rattle.guest_run.specs.Bounds.{EndInMemory};
-ghost use Rattle.guest_run.specs.Endings.{names_of, names_to, first_faults, AreToldGood, AsksFront, OfWords, Put, PutFront, RefusesFirst, RefusesFirstOf, SaysBootStopped, SaysNotRead, SaysRefused, SaysWords};
+ghost use Rattle.guest_run.specs.Endings.{names_of, names_to, AreToldGood, AsksFront, OfWords, Put, PutFront, RefusesFirst, RefusesFirstOf, SaysBootStopped, SaysNotRead, SaysRefused, SaysWords};
 ghost use Rattle.guest_run.specs.Ends.{Done, IsKnown};
 ghost use Rattle.guest_run.specs.Recordings.{Booted, BootedBy, CutAfter, History, PrintedAfter};
 ghost use Rattle.guest_run.specs.Replies.{PortsMade};
@@ -148,7 +148,7 @@ fn run_named<F: Files, K: Sink, P: Port>(
     ensures cut_line { result.status ≡ 5 → result.run ≡ None → SaysRefused (F.holds files.old) (PutFront (K.written out.old) (K.written out.new)) (seen names.now) ⊎ SaysNotRead (F.faults files.old) (F.faults files.new) (F.asked files.old) (F.asked files.new) (PutFront (K.written out.old) (K.written out.new)) (seen names.now) ⊎ SaysBootStopped P.made P.faults ports.old.items ports.new.items (F.holds files.old) (PutFront (K.written out.old) (K.written out.new)) (seen names.now) }
     ensures cut_text { result.status ≡ 5 → IfSome result.run (λ r. CutAfter r (K.written out.old) (K.written out.new)) }
     ensures boot_stopped { result.status ≡ 7 → SaysBootStopped P.made P.faults ports.old.items ports.new.items (F.holds files.old) (Put (K.written out.old) (K.written out.new)) (seen names.now) }
-    ensures complete { AreToldGood (F.holds files.old) (seen names.now) → ¬ Rose (F.faults files.old) (F.faults files.new) → ¬ Rose (K.faults out.old) (K.faults out.new) → ¬ Rose (first_faults P.faults ports.old.items) (first_faults P.faults ports.new.items) → (result.status ≡ 0) ⊎ (result.status ≡ 6) }
+    ensures complete { AreToldGood (F.holds files.old) (seen names.now) → ¬ Rose (F.faults files.old) (F.faults files.new) → ¬ Rose (K.faults out.old) (K.faults out.new) → (result.status ≡ 0) ⊎ (result.status ≡ 6) ⊎ (result.status ≡ 7) }
     ensures asked { AsksFront (names_to (seen names.now) InputFile.Script) (F.asked files.old) (F.asked files.new) }
 {
     match run(alloc, names, files, ports) {
@@ -198,7 +198,7 @@ pub fn plain<F: Files, K: Sink, P: Port>(
     ensures cut_line { result.status ≡ 5 → result.run ≡ None → SaysWords (bytes_of_words words.now) (PutFront (K.written out.old) (K.written out.new)) ⊎ OfWords (bytes_of_words words.now) (λ named. SaysRefused (F.holds files.old) (PutFront (K.written out.old) (K.written out.new)) named ⊎ SaysNotRead (F.faults files.old) (F.faults files.new) (F.asked files.old) (F.asked files.new) (PutFront (K.written out.old) (K.written out.new)) named ⊎ SaysBootStopped P.made P.faults ports.old.items ports.new.items (F.holds files.old) (PutFront (K.written out.old) (K.written out.new)) named) }
     ensures cut_text { result.status ≡ 5 → IfSome result.run (λ r. CutAfter r (K.written out.old) (K.written out.new)) }
     ensures boot_stopped { result.status ≡ 7 → OfWords (bytes_of_words words.now) (λ named. SaysBootStopped P.made P.faults ports.old.items ports.new.items (F.holds files.old) (Put (K.written out.old) (K.written out.new)) named) }
-    ensures complete { OfWords (bytes_of_words words.now) (AreToldGood (F.holds files.old)) → ¬ Rose (F.faults files.old) (F.faults files.new) → ¬ Rose (K.faults out.old) (K.faults out.new) → ¬ Rose (first_faults P.faults ports.old.items) (first_faults P.faults ports.new.items) → (result.status ≡ 0) ⊎ (result.status ≡ 6) }
+    ensures complete { OfWords (bytes_of_words words.now) (AreToldGood (F.holds files.old)) → ¬ Rose (F.faults files.old) (F.faults files.new) → ¬ Rose (K.faults out.old) (K.faults out.new) → (result.status ≡ 0) ⊎ (result.status ≡ 6) ⊎ (result.status ≡ 7) }
 
     // Whatever the status.
     ensures asked { AsksFront (names_of (named_by (bytes_of_words words.now))) (F.asked files.old) (F.asked files.new) }
@@ -247,7 +247,7 @@ pub fn top<F: Files, K: Sink, P: Port>(
     ensures cut_line { result.status ≡ 5 → result.run ≡ None → SaysWords (bytes_of_words words.now) (PutFront (K.written out.old) (K.written out.new)) ⊎ OfWords (bytes_of_words words.now) (λ named. SaysRefused (F.holds files.old) (PutFront (K.written out.old) (K.written out.new)) named ⊎ SaysNotRead (F.faults files.old) (F.faults files.new) (F.asked files.old) (F.asked files.new) (PutFront (K.written out.old) (K.written out.new)) named ⊎ SaysBootStopped P.made P.faults ports.old.items ports.new.items (F.holds files.old) (PutFront (K.written out.old) (K.written out.new)) named) }
     ensures cut_text { result.status ≡ 5 → IfSome result.run (λ r. CutAfter r (K.written out.old) (K.written out.new)) }
     ensures boot_stopped { result.status ≡ 7 → OfWords (bytes_of_words words.now) (λ named. SaysBootStopped P.made P.faults ports.old.items ports.new.items (F.holds files.old) (Put (K.written out.old) (K.written out.new)) named) }
-    ensures complete { OfWords (bytes_of_words words.now) (AreToldGood (F.holds files.old)) → ¬ Rose (F.faults files.old) (F.faults files.new) → ¬ Rose (K.faults out.old) (K.faults out.new) → ¬ Rose (first_faults P.faults ports.old.items) (first_faults P.faults ports.new.items) → (result.status ≡ 0) ⊎ (result.status ≡ 6) }
+    ensures complete { OfWords (bytes_of_words words.now) (AreToldGood (F.holds files.old)) → ¬ Rose (F.faults files.old) (F.faults files.new) → ¬ Rose (K.faults out.old) (K.faults out.new) → (result.status ≡ 0) ⊎ (result.status ≡ 6) ⊎ (result.status ≡ 7) }
 
     // Whatever the status.
     ensures asked { AsksFront (names_of (named_by (bytes_of_words words.now))) (F.asked files.old) (F.asked files.new) }
