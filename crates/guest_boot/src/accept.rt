@@ -12,10 +12,10 @@ ghost use Rattle.memory_core.specs.Booted.{IsBooted};
 ghost use Rattle.guest_boot.specs.Booting.{StandsAfter, Grew, IsEarly, AcceptedOut};
 
 use crate::fault::BootFault;
-use crate::pages::{clear_run, run_pages};
 use accept_sizes::{CallLog, RunEnd, accept_run, most_calls};
 use event_core::{Boot, Calls, Hosts, ModuleCall};
 use guest_base::{Pages, Units};
+use memory_core::{clear_run, run_pages};
 use page_module::{PageTable, Port, Span};
 use std::alloc::{AllocError, Global};
 use unaccepted_bitmap::Bitmap;

@@ -6,7 +6,6 @@ mod cut;
 #[cfg(test)]
 mod cut_tests;
 mod fault;
-mod pages;
 mod stages;
 #[cfg(test)]
 mod tests;

@@ -26,8 +26,8 @@ fn pages_of(bits: &Bitmap, units: Units) -> Pages
     }
 }
 
-/// The pages of a run of unaccepted units.
-pub(crate) fn run_pages(bits: &Option<Bitmap>, run: Units) -> Pages
+/// The pages of a run of unaccepted units, of which there is one at least.
+pub fn run_pages(bits: &Option<Bitmap>, run: Units) -> Pages
     requires some { 0 < run.count }
     requires set { (unit : ℕ) → in_range run.first run.count unit ≡ true → bits_in bits.now unit ≡ true }
     ensures { PagesOf bits.now run result }
@@ -78,8 +78,9 @@ fn clear_accepted(bits: &mut Bitmap, span: &Span, run: Units) -> u64
     cleared
 }
 
-/// The same, of a run of unaccepted units.
-pub(crate) fn clear_run(bits: &mut Option<Bitmap>, span: &Span, run: Units) -> u64
+/// Clears the bits of those units of a run of unaccepted ones in which no page of the span is pending, and tells how many (after
+/// `accept_memory`, which clears the bits of the units that it accepted).
+pub fn clear_run(bits: &mut Option<Bitmap>, span: &Span, run: Units) -> u64
     requires some { 0 < run.count }
     requires end { run.first + run.count < 2 ^ 64 }
     requires set { (unit : ℕ) → in_range run.first run.count unit ≡ true → bits_in bits.old unit ≡ true }
