@@ -1,4 +1,5 @@
 pub mod PortsLemmas
+pub mod FaultLemmas
 pub mod OneProcessor
 pub mod AtLemmas
 pub mod SpanLemmas

@@ -1,8 +1,10 @@
-use Rattle.std.specs.Prelude.{ℕ, List, [], ◌++◌, Option, None, ◌==◌, ◌≡◌, if◌then◌else◌, map, filter, slice_get, Some}
-use Rattle.std.specs.List.{filter_map, flat_map}
+use Rattle.std.specs.Prelude.{ℕ, List, [], ◌++◌, Option, None, ◌==◌, ◌≡◌, if◌then◌else◌, map, filter, slice_get, Some, Bool, true, false}
+use Rattle.std.specs.List.{filter_map, flat_map, list_any}
+use Rattle.guest_base.specs.Counts.{Rose}
 use Rattle.event_core.specs.declared.boot.Recorded.{Recorded}
 use Rattle.event_core.specs.declared.entry.Entry.{Entry}
 use Rattle.event_core.specs.declared.reply.Reply.{Reply}
+use Rattle.event_core.specs.declared.reply.Reply.TheVariants.{Module}
 use Rattle.event_core.specs.declared.module_call.ModuleCall.{ModuleCall}
 use Rattle.event_core.specs.Calls.{calls_in}
 use Rattle.event_core.specs.Turns.{numbers_from}
@@ -32,3 +34,16 @@ port_calls r cpu = (if cpu == 0 then r.boot.calls else []) ++ calls_by cpu r.ent
 -- each port has made the calls of its processor, and no others
 abbrev pub PortsMade : {P : Type 0} → (P → List ModuleCall) → List P → Recorded → Type 0
 PortsMade {P} made ports r = (cpu : ℕ) (port : P) → slice_get ports cpu ≡ Some port → made port ≡ port_calls r cpu
+
+-- the reply says that the module failed
+abbrev pub is_module : Option Reply → Bool
+is_module (Some Module) = true
+is_module _ = false
+
+-- whether a command was answered so
+abbrev pub some_module : List Entry → Bool
+some_module entries = list_any (λ (e : Entry). is_module e.reply) entries
+
+-- a command was answered so only where the count of faults rose
+abbrev pub FaultsTold : ℕ → List Entry → ℕ → Type 0
+FaultsTold before entries after = some_module entries ≡ true → Rose before after

@@ -16,7 +16,7 @@ ghost use Rattle.guest_boot.specs.Worlds.{WorldStands};
 ghost use Rattle.guest_run.specs.First.{IsFirstCommand};
 ghost use Rattle.guest_run.specs.Ready.{Ready, calls_by_now};
 ghost use Rattle.guest_run.specs.Recordings.{History};
-ghost use Rattle.guest_run.specs.Replies.{port_calls};
+ghost use Rattle.guest_run.specs.Replies.{port_calls, some_module, FaultsTold};
 
 use crate::processor::Processor;
 use event_core::{Recorded, Runs, Script};
@@ -47,6 +47,8 @@ pub fn turns<P: Port>(
     ensures bytes { IfOk result (λ r. BytesTold r.0.boot r.0.scripts r.0.entries) }
     ensures full { IfOk result (λ r. FullOnlyWhereFull r.0.boot r.0.scripts r.0.entries) }
     ensures made { IfOk result (λ r. P.made port.new ≡ port_calls r.0 0) }
+    ensures told { IfOk result (λ r. FaultsTold (P.faults port.old) r.0.entries (P.faults port.new)) }
+    ensures faults { P.faults port.old ≤ P.faults port.new }
     ensures runs { IfOk result (λ r. AreMaximalRuns (page_state r.0.boot (calls_of r.0.boot r.0.entries)) r.1) }
 {
     let count = script.len() as u32;
@@ -62,6 +64,7 @@ fn started(alloc: Global, world: World, script: Script) -> Processor
     requires stands { WorldStands world }
     requires right { (map : List Descriptor) × (hosts : List HostRun) × (slots areas : ℕ) × MapRules map hosts × BootRight map hosts slots areas 1 world.boot }
     ensures ready { Ready result 0 }
+    ensures no_entry { result.entries ≡ [] }
     ensures calls { calls_by_now result ≡ world.boot.calls }
     ensures boot { result.boot ≡ world.boot }
     ensures script { result.script ≡ script }
@@ -83,6 +86,7 @@ fn finished(alloc: Global, processor: Processor) -> Result<(Recorded, Runs), All
     ensures scripts { IfOk result (λ r. r.0.scripts ≡ processor.script ∷ []) }
     ensures history { IfOk result (λ r. History [] r.0) }
     ensures calls { IfOk result (λ r. calls_of r.0.boot r.0.entries ≡ calls_by_now processor) }
+    ensures entries { IfOk result (λ r. r.0.entries ≡ processor.entries) }
     ensures runs { IfOk result (λ r. AreMaximalRuns (page_state r.0.boot (calls_of r.0.boot r.0.entries)) r.1) }
 {
     let Processor {

@@ -1,11 +1,12 @@
 //! The one processor of a run.
-ghost use Rattle.std.specs.Prelude.{◌≡◌, ℕ, List, [], ◌∷◌, ◌++◌, ◌+◌, ◌^◌, ◌<◌, ◌≤◌, None, Some, length, All, slice_get, IfOk, IfSome, OnOk};
+ghost use Rattle.std.specs.Prelude.{◌≡◌, ℕ, List, [], ◌∷◌, ◌++◌, ◌+◌, ◌^◌, ◌<◌, ◌≤◌, None, Some, false, length, All, slice_get, IfOk, IfSome, OnOk};
 ghost use Rattle.event_core.specs.declared.command.Command.TheVariants.{Accept, Query};
 ghost use Rattle.event_core.specs.declared.command.Command.{Command as CommandValue};
 ghost use Rattle.event_core.specs.Holdings.{Own};
 ghost use Rattle.event_core.specs.Refusals.{memory_range_refusal, refusal_of};
 ghost use Rattle.guest_run.specs.First.{IsFirstCommand};
 ghost use Rattle.guest_run.specs.RangedCommand.{as_command};
+ghost use Rattle.guest_run.specs.Replies.{is_module, some_module, FaultsTold};
 
 use crate::answers::{after_report, range_refusal, reply_of_claim, span_of_claim};
 use crate::room::{take_room, unaccepted_of};
@@ -80,6 +81,7 @@ impl Processor {
         requires fine { memory_range_refusal start len ≡ None }
         ensures goes_on { IfOk result (λ span. EndsOr self.new number span) }
         ensures quiet { OnOk result (calls_by_now self.new ≡ calls_by_now self.old) }
+        ensures no_fault { OnOk result (some_module self.new.entries ≡ some_module self.old.entries) }
         ensures boot { OnOk result (self.new.boot ≡ self.old.boot) }
         ensures script { OnOk result (self.new.script ≡ self.old.script) }
     {
@@ -117,6 +119,8 @@ impl Processor {
         ensures goes_on { IfOk result (λ next. EndsOr self.new number next) }
         ensures further { IfOk result (λ next. IfSome next (λ s. span.ticket.pages.first < s.ticket.pages.first)) }
         ensures made { OnOk result (P.made port.old ≡ calls_by_now self.old → P.made port.new ≡ calls_by_now self.new) }
+        ensures told { OnOk result ((before : ℕ) → before ≤ P.faults port.old → FaultsTold before self.old.entries (P.faults port.old) → FaultsTold before self.new.entries (P.faults port.new)) }
+        ensures faults { P.faults port.old ≤ P.faults port.new }
         ensures boot { OnOk result (self.new.boot ≡ self.old.boot) }
         ensures script { OnOk result (self.new.script ≡ self.old.script) }
     {
@@ -151,6 +155,8 @@ impl Processor {
         requires made { P.made port.old ≡ calls_by_now self.old }
         ensures ready { OnOk result (Ready self.new (number + 1)) }
         ensures made { OnOk result (P.made port.new ≡ calls_by_now self.new) }
+        ensures told { OnOk result ((before : ℕ) → before ≤ P.faults port.old → FaultsTold before self.old.entries (P.faults port.old) → FaultsTold before self.new.entries (P.faults port.new)) }
+        ensures faults { P.faults port.old ≤ P.faults port.new }
         ensures boot { OnOk result (self.new.boot ≡ self.old.boot) }
         ensures script { OnOk result (self.new.script ≡ self.old.script) }
     {
@@ -176,6 +182,8 @@ impl Processor {
         requires fine { memory_range_refusal start len ≡ None }
         ensures ready { OnOk result (Ready self.new (number + 1)) }
         ensures made { OnOk result (P.made port.new ≡ calls_by_now self.new) }
+        ensures told { OnOk result ((before : ℕ) → before ≤ P.faults port.old → FaultsTold before self.old.entries (P.faults port.old) → FaultsTold before self.new.entries (P.faults port.new)) }
+        ensures faults { P.faults port.old ≤ P.faults port.new }
         ensures boot { OnOk result (self.new.boot ≡ self.old.boot) }
         ensures script { OnOk result (self.new.script ≡ self.old.script) }
     {
@@ -192,6 +200,7 @@ impl Processor {
         requires fine { memory_range_refusal start len ≡ None }
         ensures ready { OnOk result (Ready self.new (number + 1)) }
         ensures quiet { OnOk result (calls_by_now self.new ≡ calls_by_now self.old) }
+        ensures no_fault { OnOk result (some_module self.new.entries ≡ some_module self.old.entries) }
         ensures boot { OnOk result (self.new.boot ≡ self.old.boot) }
         ensures script { OnOk result (self.new.script ≡ self.old.script) }
     {
@@ -211,9 +220,11 @@ impl Processor {
     /// Refuses the present command.
     fn refuse(&mut self, number: u32, refusal: Reply) -> Result<(), AllocError>
         requires ready { Ready self.old number }
+        requires other { is_module (Some refusal) ≡ false }
         requires refused { (c : CommandValue) × (slice_get self.old.script number ≡ Some c) × ((own : Own) → refusal_of self.old.boot own c ≡ Some refusal) }
         ensures ready { OnOk result (Ready self.new (number + 1)) }
         ensures quiet { OnOk result (calls_by_now self.new ≡ calls_by_now self.old) }
+        ensures no_fault { OnOk result (some_module self.new.entries ≡ some_module self.old.entries) }
         ensures boot { OnOk result (self.new.boot ≡ self.old.boot) }
         ensures script { OnOk result (self.new.script ≡ self.old.script) }
     {
@@ -235,6 +246,8 @@ impl Processor {
         requires first { All IsFirstCommand self.old.script }
         ensures ready { OnOk result (Ready self.new (number + 1)) }
         ensures made { OnOk result (P.made port.new ≡ calls_by_now self.new) }
+        ensures told { OnOk result ((before : ℕ) → before ≤ P.faults port.old → FaultsTold before self.old.entries (P.faults port.old) → FaultsTold before self.new.entries (P.faults port.new)) }
+        ensures faults { P.faults port.old ≤ P.faults port.new }
         ensures boot { OnOk result (self.new.boot ≡ self.old.boot) }
         ensures script { OnOk result (self.new.script ≡ self.old.script) }
     {

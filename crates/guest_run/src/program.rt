@@ -11,10 +11,10 @@ ghost use Rattle.event_core.specs.Runs.{AreMaximalRuns};
 ghost use Rattle.event_core.specs.Untouched.{Untouched};
 ghost use Rattle.guest_io.specs.Writing.{appended};
 ghost use Rattle.guest_run.specs.Bounds.{EndInMemory};
-ghost use Rattle.guest_run.specs.Endings.{names_of, names_to, AreToldGood, AsksFront, OfWords, Put, PutFront, RefusesFirst, RefusesFirstOf, SaysBootStopped, SaysNotRead, SaysRefused, SaysWords};
+ghost use Rattle.guest_run.specs.Endings.{names_of, names_to, first_faults, AreToldGood, AsksFront, OfWords, Put, PutFront, RefusesFirst, RefusesFirstOf, SaysBootStopped, SaysNotRead, SaysRefused, SaysWords};
 ghost use Rattle.guest_run.specs.Ends.{Done, IsKnown};
 ghost use Rattle.guest_run.specs.Recordings.{Booted, BootedBy, CutAfter, History, PrintedAfter};
-ghost use Rattle.guest_run.specs.Replies.{PortsMade};
+ghost use Rattle.guest_run.specs.Replies.{FaultsTold, PortsMade};
 ghost use Rattle.guest_run.specs.Stopping.{EndsWith, StopEnds};
 ghost use Rattle.guest_run.specs.Stops.{words_line};
 ghost use Rattle.guest_run.specs.Views.{seen};
@@ -136,6 +136,7 @@ fn run_named<F: Files, K: Sink, P: Port>(
     ensures bytes { IfSome result.run (λ r. BytesTold r.boot r.scripts r.entries) }
     ensures full { IfSome result.run (λ r. FullOnlyWhereFull r.boot r.scripts r.entries) }
     ensures calls { IfSome result.run (λ r. PortsMade P.made ports.new.items r) }
+    ensures module { IfSome result.run (λ r. FaultsTold (first_faults P.faults ports.old.items) r.entries (first_faults P.faults ports.new.items)) }
     ensures run { result.status ≡ 0 → IsSome result.run }
     ensures printed { Done result (λ r. PrintedAfter r (K.written out.old) (K.written out.new)) }
     ensures known { IsKnown result.status }
@@ -180,6 +181,7 @@ pub fn plain<F: Files, K: Sink, P: Port>(
     ensures bytes { IfSome result.run (λ r. BytesTold r.boot r.scripts r.entries) }
     ensures full { IfSome result.run (λ r. FullOnlyWhereFull r.boot r.scripts r.entries) }
     ensures calls { IfSome result.run (λ r. PortsMade P.made ports.new.items r) }
+    ensures module { IfSome result.run (λ r. FaultsTold (first_faults P.faults ports.old.items) r.entries (first_faults P.faults ports.new.items)) }
 
     // Status 0: all is printed.
     ensures run { result.status ≡ 0 → IsSome result.run }
@@ -229,6 +231,7 @@ pub fn top<F: Files, K: Sink, P: Port>(
     ensures bytes { IfSome result.run (λ r. BytesTold r.boot r.scripts r.entries) }
     ensures full { IfSome result.run (λ r. FullOnlyWhereFull r.boot r.scripts r.entries) }
     ensures calls { IfSome result.run (λ r. PortsMade P.made ports.new.items r) }
+    ensures module { IfSome result.run (λ r. FaultsTold (first_faults P.faults ports.old.items) r.entries (first_faults P.faults ports.new.items)) }
 
     // Status 0: all is printed.
     ensures run { result.status ≡ 0 → IsSome result.run }

@@ -18,7 +18,7 @@ ghost use Rattle.guest_run.specs.Bounds.{EndInMemory};
 ghost use Rattle.guest_run.specs.Endings.{names_to, first_made, first_faults, AreGood, OthersUnmade, BootStops};
 ghost use Rattle.guest_run.specs.First.{IsFirstCommand};
 ghost use Rattle.guest_run.specs.Recordings.{BootedBy, History};
-ghost use Rattle.guest_run.specs.Replies.{PortsMade};
+ghost use Rattle.guest_run.specs.Replies.{PortsMade, FaultsTold};
 ghost use Rattle.guest_run.specs.Stopping.{BootFails, Stopped};
 ghost use Rattle.guest_run.specs.Views.{seen};
 
@@ -76,6 +76,7 @@ fn turns_on_first<P: Port>(
     ensures bytes { IfOk result (λ r. BytesTold r.0.boot r.0.scripts r.0.entries) }
     ensures full { IfOk result (λ r. FullOnlyWhereFull r.0.boot r.0.scripts r.0.entries) }
     ensures made { IfOk result (λ r. PortsMade P.made ports.new.items r.0) }
+    ensures told { IfOk result (λ r. FaultsTold (first_faults P.faults ports.old.items) r.0.entries (first_faults P.faults ports.new.items)) }
     ensures runs { IfOk result (λ r. AreMaximalRuns (page_state r.0.boot (calls_of r.0.boot r.0.entries)) r.1) }
     ensures within { IfOk result (λ r. EndInMemory r.1) }
 {
@@ -102,6 +103,7 @@ fn run_input<P: Port>(
     ensures bytes { IfOk result (λ r. BytesTold r.0.boot r.0.scripts r.0.entries) }
     ensures full { IfOk result (λ r. FullOnlyWhereFull r.0.boot r.0.scripts r.0.entries) }
     ensures made { IfOk result (λ r. PortsMade P.made ports.new.items r.0) }
+    ensures told { IfOk result (λ r. FaultsTold (first_faults P.faults ports.old.items) r.0.entries (first_faults P.faults ports.new.items)) }
     ensures runs { IfOk result (λ r. AreMaximalRuns (page_state r.0.boot (calls_of r.0.boot r.0.entries)) r.1) }
     ensures within { IfOk result (λ r. EndInMemory r.1) }
     ensures stop { IfErr result (λ stop. BootFails P.made P.faults ports.old.items ports.new.items input.map stop) }
@@ -129,6 +131,7 @@ pub(crate) fn run<F: Files, P: Port>(
     ensures bytes { IfOk result (λ r. BytesTold r.0.boot r.0.scripts r.0.entries) }
     ensures full { IfOk result (λ r. FullOnlyWhereFull r.0.boot r.0.scripts r.0.entries) }
     ensures calls { IfOk result (λ r. PortsMade P.made ports.new.items r.0) }
+    ensures told { IfOk result (λ r. FaultsTold (first_faults P.faults ports.old.items) r.0.entries (first_faults P.faults ports.new.items)) }
     ensures runs { IfOk result (λ r. AreMaximalRuns (page_state r.0.boot (calls_of r.0.boot r.0.entries)) r.1) }
     ensures within { IfOk result (λ r. EndInMemory r.1) }
     ensures asked { OnOk result (F.asked files.new ≡ F.asked files.old ++ names_to (seen names.now) InputFile.Script) }

@@ -1,5 +1,6 @@
 //! Spans of pages that are out for a claim.
-ghost use Rattle.std.specs.Prelude.{◌≡◌, ◌++◌, ◌^◌, ◌<◌, ◌≤◌, IfOk, IfSome};
+ghost use Rattle.std.specs.Prelude.{◌≡◌, ◌≢◌, None, ◌++◌, ◌^◌, ◌<◌, ◌≤◌, IfOk, IfSome};
+ghost use Rattle.guest_base.specs.Counts.{Rose};
 ghost use Rattle.guest_base.specs.declared.memory.Units.{Units as UnitsValue};
 ghost use Rattle.event_core.specs.Acceptance.{stop_of};
 ghost use Rattle.event_core.specs.Units.{unit_pages};
@@ -50,6 +51,8 @@ pub(crate) fn accept_span<P: Port>(
     ensures accepts { IfOk result (λ r. Accepts hosts.now span.old span.new r.0) }
     ensures stop { IfOk result (λ r. stop_of r.0 ≡ stopped_at r.1) }
     ensures made { IfOk result (λ r. P.made port.new ≡ P.made port.old ++ r.0) }
+    ensures stopped { IfOk result (λ r. stopped_at r.1 ≢ None → Rose (P.faults port.old) (P.faults port.new)) }
+    ensures faults { P.faults port.old ≤ P.faults port.new }
 {
     let most = most_calls(span.pages().count);
     port.reserve(alloc, most)?;

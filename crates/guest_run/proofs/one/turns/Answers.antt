@@ -1,4 +1,4 @@
-use Rattle.std.proofs.Common.{sym, ◌∙◌, ap, subst, All, List}
+use Rattle.std.proofs.Common.{sym, ◌∙◌, ap, subst, arith, All, List}
 use Rattle.event_core.specs.declared.boot.Boot.{Boot}
 use Rattle.event_core.specs.declared.command.Command.{Command}
 use Rattle.event_core.specs.Calls.{SoundCalls}
@@ -7,6 +7,19 @@ use Rattle.guest_run.specs.First.{IsFirstCommand}
 use Rattle.guest_run.specs.Ready.{calls_by_now}
 use Rattle.guest_run.proofs.RunLemmas.{once_of, untouched_of, disjoint_of, told_of, full_of, made_of}
 use Rattle.guest_run.proofs.one.turns.Goals as goal
+
+pub loop-number-preserved : goal.loop-number-preserved
+loop-number-preserved g c =
+    let i = c.loop-number.invariant in
+    let e = c.in_ok-command.ensures in
+    record {
+      ready = e.ready;
+      made = e.made;
+      boot = e.boot ∙ i.boot;
+      script = e.script ∙ i.script;
+      told = e.told (g.P.Port.faults c.args.port.now) i.faults i.told;
+      faults = omega (arith, i.faults, e.faults);
+    }
 
 pub returns-clause-accepted_once : goal.returns-clause-accepted_once
 returns-clause-accepted_once g c =

@@ -8,6 +8,9 @@ use Rattle.memory_core.specs.Answers.{ReportedBy}
 use Rattle.memory_core.specs.Steps.{Appends, pages_of}
 use Rattle.guest_run.specs.Answered.{IsRunOf}
 use Rattle.guest_run.proofs.ReadyLemmas.{claiming-report, report-added, report-whole, report-further, calls-reported, claim-has}
+use Rattle.guest_run.specs.declared.processor.Processor.{Processor}
+use Rattle.guest_run.specs.Replies.{FaultsTold}
+use Rattle.guest_run.proofs.FaultLemmas.{one_told, stopped_rose}
 use Rattle.guest_run.proofs.processor.Processor.report.Goals as goal
 
 pub run_of-requires-clause-whole : goal.run_of-requires-clause-whole
@@ -57,3 +60,15 @@ returns-clause-made g c was =
     let appends = c.report.ensures.appends claiming.claim has in
     let after = calls-reported p c.add.new.self c.args.number c.report.new.turn.clock c.report.new.self c.turn-turn.result c.report.new.turn (event.Report c.units_of-run.result c.in_ok-copy.copy c.stopped_page.result c.run_of.result) c.after_report-next.result.1 claiming.claim calls c.in_ok-add.ensures appends in
     c.in_ok-calls.ensures.made ∙ ap (λ l. l ++ calls) was ∙ sym after
+
+pub returns-clause-told : goal.returns-clause-told
+returns-clause-told g c before le was =
+    let p = c.args.self.now in
+    let claiming = c.requires.claiming in
+    let calls = c.in_ok-calls.calls in
+    let mid = g.P.Port.faults c.args.port.now in
+    let after = g.P.Port.faults c.accept_span.new.port in
+    let has = claim-has p c.args.number c.args.span c.turn-turn.result claiming c.turn-turn.ensures.turn in
+    let rose = stopped_rose p.memory c.report.new.self c.turn-turn.result claiming.claim calls c.report.result c.after_report-next.result.1 c.in_ok-calls.end mid after c.after_report-next.ensures.reply (c.report.ensures.reported claiming.claim has) c.in_ok-calls.ensures.stop c.in_ok-calls.ensures.stopped in
+    let Q : Processor → Type 0 = λ q. FaultsTold before q.entries after in
+    subst Q (sym c.in_ok-add.ensures) (one_told p.entries _ before mid after le c.in_ok-calls.ensures.faults was rose)
