@@ -7,11 +7,13 @@ use Rattle.guest_base.specs.declared.memory.Units.{Units}
 use Rattle.guest_base.specs.declared.memory.Block.{Block}
 use Rattle.event_core.specs.declared.boot.Boot.{Boot}
 use Rattle.event_core.specs.declared.module_call.CallKind.{CallKind}
-use Rattle.event_core.specs.declared.module_call.CallKind.TheVariants.{Accept, Share, Unshare}
+use Rattle.event_core.specs.declared.module_call.CallKind.TheVariants.{Accept, Share, Unshare, Give}
 use Rattle.event_core.specs.declared.module_call.ModuleCall.{ModuleCall}
 use Rattle.event_core.specs.declared.event.Event.{Event}
-use Rattle.event_core.specs.declared.event.Event.TheVariants.{Claim, Report, Got, Freed}
+use Rattle.event_core.specs.declared.event.Event.TheVariants.{Claim, Report, Got, Freed, ConvertEnd}
+use Rattle.event_core.specs.declared.event.ConvertEnd.TheVariants.{Converted}
 use Rattle.event_core.specs.declared.entry.Entry.{Entry}
+use Rattle.event_core.specs.Calls.{gives_back}
 use Rattle.event_core.specs.Units.{guarded_units, bit_after}
 use Rattle.event_core.specs.Claims.{Claimed, claim_of}
 use Rattle.event_core.specs.Cut.{cut}
@@ -27,6 +29,7 @@ abbrev pub shares : CallKind → Bool
 shares Accept = false
 shares Share = true
 shares Unshare = false
+shares Give = false
 
 -- calls up to the one that shares the pool, and those behind it
 abbrev pub up_to_share : List ModuleCall → List ModuleCall
@@ -61,7 +64,8 @@ waits_at_boot boot block =
 
 -- ---- after entries
 
--- a block of the cut waits, is being accepted by a processor, or is loose: its pages are free or owned
+-- a block of the cut waits, is being accepted by a processor, or is loose: its pages are free or owned; one that was given back
+-- waits again
 pub data BlockState : Type 0 where
   Waits : BlockState
   InFlight : (cpu : ℕ) → BlockState
@@ -86,6 +90,7 @@ reported cpu stopped next Loose = Loose
 abbrev pub block_step : Block → ℕ → BlockState → Event → BlockState
 block_step block cpu at (Claim (Some claimed) units run) = if same_block claimed block then after_claim cpu run else at
 block_step block cpu at (Report run calls stopped next) = reported cpu stopped next at
+block_step block cpu at (ConvertEnd given calls Converted) = if same_block given block && gives_back calls then Waits else at
 block_step block cpu at _ = at
 
 unfoldable pub block_state : Boot → List Entry → Block → BlockState
@@ -113,10 +118,11 @@ is_for_block claim = option_map_or (λ (c : Claimed). is_some c.block) claim fal
 unfoldable pub in_flight_with : Boot → List Entry → Option ℕ
 in_flight_with boot memory = first_such (λ cpu. is_for_block (claim_of boot memory cpu)) 0 boot.cpus
 
--- a page is owned where the last Got or Freed of a block that holds it is a Got
+-- a page is owned where of the Gots and Freeds of blocks that hold it, and the conversions that gave it back, the last is a Got
 abbrev pub owned_after : ℕ → Bool → Event → Bool
 owned_after page owned (Got block) = if in_block page block then true else owned
 owned_after page owned (Freed block) = if in_block page block then false else owned
+owned_after page owned (ConvertEnd block calls Converted) = if in_block page block && gives_back calls then false else owned
 owned_after page owned _ = owned
 
 unfoldable pub is_owned : List Entry → ℕ → Bool

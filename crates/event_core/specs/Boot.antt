@@ -13,16 +13,16 @@ use Rattle.event_core.specs.declared.module_call.CallKind.TheVariants.{Share}
 use Rattle.event_core.specs.declared.module_call.PortAnswer.{PortAnswer}
 use Rattle.event_core.specs.declared.module_call.PortAnswer.TheVariants.{Ok as AnsweredOk, Failed}
 use Rattle.event_core.specs.declared.module_call.ModuleCall.{ModuleCall}
-use Rattle.event_core.specs.Map.{first_state}
 use Rattle.event_core.specs.Runs.{AreMaximalRuns, state_in}
-use Rattle.event_core.specs.Stub.{default_unit, stub_base, stub_length, stub_bit, EarlyPieces}
+use Rattle.event_core.specs.Table.{Bits}
+use Rattle.event_core.specs.Given.{first_by, unit_by, base_by, length_by, bit_by, EarlyBy}
 use Rattle.event_core.specs.Units.{bit_of, bit_after, guarded_units, first_run, units_end, unit_count}
 use Rattle.event_core.specs.Acceptance.{AcceptanceSteps, stop_of}
 use Rattle.event_core.specs.MemoryRows.{page_state, is_pending, AcceptsUnits}
 use Rattle.event_core.specs.Cut.{cut}
 use Rattle.std.specs.Prelude.{◌&&◌}
 
--- What boot makes of a map (the stub and the unaccepted bitmap after Linux's EFI stub; the pool and the blocks are own rules).
+-- What boot makes of a map, and of a table where one is handed in (the stub and the unaccepted bitmap after Linux's EFI stub; the pool and the blocks are own rules).
 
 -- Items are worked on one after another. Each has its part of the calls, which is judged after the calls done before it, and either
 -- goes through or stops at a page; a part that stops is the last.
@@ -112,21 +112,21 @@ PoolPlaced boot None = boot.slots ≡ 0
 PoolPlaced boot (Some pool) = (boot.slots ≢ 0) × IsPoolPlace boot (boot.slots / 2) pool
 
 -- the boot's calls, stage after stage
-pub record BootCalls (map : List Descriptor) (boot : Boot) (calls : List ModuleCall) (stop : Option Page) : Type 0 where
+pub record BootCalls (map : List Descriptor) (table : Option Bits) (boot : Boot) (calls : List ModuleCall) (stop : Option Page) : Type 0 where
   pub pieces : List Pages
-  pub early : EarlyPieces map pieces
+  pub early : EarlyBy map table pieces
   pub stages : InTurn (StagePart boot) [] (stages_of boot pieces) calls stop
 
--- what boot makes of a map, the slots and areas asked for, and the number of processors
-pub record BootRight (map : List Descriptor) (hosts : List HostRun) (slots areas cpus : ℕ) (boot : Boot) : Type 0 where
-  pub ram : AreMaximalRuns (first_state map) boot.ram
+-- what boot makes of a map, a table or none, the slots and areas asked for, and the number of processors
+pub record BootRight (map : List Descriptor) (hosts : List HostRun) (table : Option Bits) (slots areas cpus : ℕ) (boot : Boot) : Type 0 where
+  pub ram : AreMaximalRuns (first_by map table) boot.ram
   pub same_hosts : boot.hosts ≡ hosts
-  pub unit : boot.unit ≡ default_unit
-  pub base : boot.base ≡ stub_base map
-  pub bitmap : length boot.bits ≡ stub_length map
-  pub bits : (unit : ℕ) → unit < unit_count boot.bits → bit_of boot.bits unit ≡ stub_bit map unit
+  pub unit : boot.unit ≡ unit_by table
+  pub base : boot.base ≡ base_by map table
+  pub bitmap : length boot.bits ≡ length_by map table
+  pub bits : (unit : ℕ) → unit < unit_count boot.bits → bit_of boot.bits unit ≡ bit_by map table unit
   pub same_cpus : boot.cpus ≡ cpus
   pub same_areas : boot.areas ≡ areas
   pub raised : boot.slots ≡ (if slots == 0 then 0 else raised_slots slots areas)
   pub pool : PoolPlaced boot boot.pool
-  pub made : BootCalls map boot boot.calls None
+  pub made : BootCalls map table boot boot.calls None

@@ -1,5 +1,5 @@
 use Rattle.std.specs.Prelude.{ℕ, List, [], ◌∷◌, ◌++◌, Option, Some, Bool, true, false, ◌≡◌, ◌⊎◌, ◌&&◌, nat_lt, fold, if◌then◌else◌}
-use Rattle.std.specs.List.{flat_map}
+use Rattle.std.specs.List.{flat_map, list_any}
 use Rattle.guest_base.specs.Ranges.{in_range}
 use Rattle.guest_base.specs.Levels.{level_at, level_pages}
 use Rattle.guest_base.specs.declared.memory.Level.{Level}
@@ -7,7 +7,7 @@ use Rattle.guest_base.specs.declared.memory.HostRun.{HostRun}
 use Rattle.guest_base.specs.declared.memory.PageState.{PageState}
 use Rattle.guest_base.specs.declared.memory.PageState.TheVariants.{Pending, Accepted, Shared}
 use Rattle.event_core.specs.declared.module_call.CallKind.{CallKind}
-use Rattle.event_core.specs.declared.module_call.CallKind.TheVariants.{Accept, Share, Unshare}
+use Rattle.event_core.specs.declared.module_call.CallKind.TheVariants.{Accept, Share, Unshare, Give}
 use Rattle.event_core.specs.declared.module_call.PortAnswer.{PortAnswer}
 use Rattle.event_core.specs.declared.module_call.PortAnswer.TheVariants.{Ok as AnsweredOk, SizeMismatch, Failed}
 use Rattle.event_core.specs.declared.module_call.ModuleCall.{ModuleCall}
@@ -34,16 +34,39 @@ is_done call = elim call.answer [ AnsweredOk ↦ true | SizeMismatch ↦ false |
 abbrev pub covers : ModuleCall → ℕ → Bool
 covers call page = in_range call.first call.count page
 
+-- whether calls accepted a page
+abbrev pub is_accept : CallKind → Bool
+is_accept Accept = true
+is_accept Share = false
+is_accept Unshare = false
+is_accept Give = false
+
+abbrev pub accepts_page : List ModuleCall → ℕ → Bool
+accepts_page calls page = list_any (λ (call : ModuleCall). is_accept call.kind && (is_done call && covers call page)) calls
+
+-- whether calls give pages back to the host: the first one tells, since such a call stands alone
+abbrev pub is_give : CallKind → Bool
+is_give Accept = false
+is_give Share = false
+is_give Unshare = false
+is_give Give = true
+
+abbrev pub gives_back : List ModuleCall → Bool
+gives_back [] = false
+gives_back (call ∷ calls) = is_give call.kind
+
 -- the state that a page has before a call, and after it where it was answered Ok (after the TDX guest)
 abbrev pub state_before : CallKind → PageState
 state_before Accept = Pending
 state_before Share = Accepted
 state_before Unshare = Shared
+state_before Give = Accepted
 
 abbrev pub state_made : CallKind → PageState
 state_made Accept = Accepted
 state_made Share = Shared
 state_made Unshare = Pending
+state_made Give = Pending
 
 -- the states of pages, by number; none for what isn't RAM
 abbrev pub States : Type 0
@@ -61,8 +84,9 @@ state_after first calls = fold after_call first calls
 abbrev pub IsSound : States → ModuleCall → Type 0
 IsSound states call = (page : ℕ) → covers call page ≡ true → states page ≡ Some (state_before call.kind)
 
--- Every call, whatever its answer, finds its pages in the state that it needs: Pending for accept, Accepted for share, Shared
--- for unshare. So between two accepts of a page that were answered Ok there is a share and an unshare of it.
+-- Every call, whatever its answer, finds its pages in the state that it needs: Pending for accept, Accepted for share and for
+-- give, Shared for unshare. So between two accepts of a page that were answered Ok there is an unshare of it that was, with a share
+-- before it, or a give.
 abbrev pub SoundCalls : States → List ModuleCall → Type 0
 SoundCalls states [] = Unit {0}
 SoundCalls states (call ∷ calls) = IsSound states call × SoundCalls (after_call states call) calls
@@ -81,6 +105,7 @@ abbrev pub HonestAnswer : List HostRun → ModuleCall → CallKind → Type 0
 HonestAnswer hosts call Accept = (call.answer ≡ Failed) ⊎ (call.answer ≡ accept_answer hosts call)
 HonestAnswer hosts call Share = (call.answer ≡ Failed) ⊎ (call.answer ≡ AnsweredOk)
 HonestAnswer hosts call Unshare = (call.answer ≡ Failed) ⊎ (call.answer ≡ AnsweredOk)
+HonestAnswer hosts call Give = (call.answer ≡ Failed) ⊎ (call.answer ≡ AnsweredOk)
 
 abbrev pub HonestHost : List HostRun → ModuleCall → Type 0
 HonestHost hosts call = HonestAnswer hosts call call.kind

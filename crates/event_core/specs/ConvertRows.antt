@@ -6,7 +6,7 @@ use Rattle.guest_base.specs.declared.memory.PageState.{PageState}
 use Rattle.guest_base.specs.declared.memory.PageState.TheVariants.{Pending, Accepted, Shared}
 use Rattle.event_core.specs.declared.boot.Boot.{Boot}
 use Rattle.event_core.specs.declared.module_call.CallKind.{CallKind}
-use Rattle.event_core.specs.declared.module_call.CallKind.TheVariants.{Share, Unshare}
+use Rattle.event_core.specs.declared.module_call.CallKind.TheVariants.{Share, Unshare, Give}
 use Rattle.event_core.specs.declared.module_call.ModuleCall.{ModuleCall}
 use Rattle.event_core.specs.declared.event.ConvertEnd.{ConvertEnd as End}
 use Rattle.event_core.specs.declared.event.ConvertEnd.TheVariants.{Converted, Refused, Half}
@@ -19,7 +19,8 @@ use Rattle.event_core.specs.MemoryRows.{page_state, is_pending}
 use Rattle.event_core.specs.Absent.{in_block}
 use Rattle.event_core.specs.Holdings.{same_block}
 
--- Conversions of a block between private and shared, after the memory's entries (after the TDX guest; half blocks are an own rule).
+-- Conversions of a block, after the memory's entries: between private and shared, and back to the host (after the TDX guest; half
+-- blocks and giving back are own rules).
 
 -- what the last begun conversion of the block makes of it
 abbrev pub aim_after : Block → Option PageState → Event → Option PageState
@@ -41,10 +42,10 @@ is_shared_block boot memory block = is_shared (page_state boot (calls_of boot me
 
 -- ---- the end that calls bring
 
--- one call shares the block, or is refused
-abbrev pub share_end : List ModuleCall → End
-share_end [] = Refused
-share_end (call ∷ calls) = if is_done call then Converted else Refused
+-- one call shares the block or gives it back, or is refused
+abbrev pub one_call_end : List ModuleCall → End
+one_call_end [] = Refused
+one_call_end (call ∷ calls) = if is_done call then Converted else Refused
 
 -- its pages are accepted, or the acceptance stops half way
 abbrev pub accept_end : Option Page → End
@@ -58,9 +59,9 @@ private_end true [] = Refused
 private_end true (call ∷ calls) = if is_done call then accept_end (stop_of calls) else Refused
 
 abbrev pub end_by : Bool → Option PageState → List ModuleCall → End
-end_by shared (Some Shared) calls = share_end calls
+end_by shared (Some Shared) calls = one_call_end calls
 end_by shared (Some Accepted) calls = private_end shared calls
-end_by shared (Some Pending) calls = Refused
+end_by shared (Some Pending) calls = one_call_end calls
 end_by shared None calls = Refused
 
 -- the end of a block's conversion
@@ -76,10 +77,10 @@ pub record IsBlockCall (kind : CallKind) (block : Block) (call : ModuleCall) : T
   pub count : call.count ≡ 2 ^ block.order
   pub level : call.level ≡ Small
 
-abbrev pub SharesBlock : Boot → Block → List ModuleCall → Type 0
-SharesBlock boot block [] = ⊥
-SharesBlock boot block (call ∷ []) = IsBlockCall Share block call × HonestHost boot.hosts call
-SharesBlock boot block (call ∷ next ∷ calls) = ⊥
+abbrev pub CallsOnce : Boot → CallKind → Block → List ModuleCall → Type 0
+CallsOnce boot kind block [] = ⊥
+CallsOnce boot kind block (call ∷ []) = IsBlockCall kind block call × HonestHost boot.hosts call
+CallsOnce boot kind block (call ∷ next ∷ calls) = ⊥
 
 -- the block's pending pages are accepted by sizes
 unfoldable pub pending_in_block : Boot → List ModuleCall → Block → ℕ → Bool
@@ -98,10 +99,10 @@ TakesBlockBack boot before block (call ∷ calls) =
     × elim (is_done call) as (λ _. Type 0) [ true ↦ AcceptsBlockPages boot (before ++ call ∷ []) block calls | false ↦ calls ≡ [] ]
 
 abbrev pub ConvertsBy : Boot → List ModuleCall → Block → Bool → Option PageState → List ModuleCall → Type 0
-ConvertsBy boot before block shared (Some Shared) calls = SharesBlock boot block calls
+ConvertsBy boot before block shared (Some Shared) calls = CallsOnce boot Share block calls
 ConvertsBy boot before block true (Some Accepted) calls = TakesBlockBack boot before block calls
 ConvertsBy boot before block false (Some Accepted) calls = AcceptsBlockPages boot before block calls
-ConvertsBy boot before block shared (Some Pending) calls = ⊥
+ConvertsBy boot before block shared (Some Pending) calls = CallsOnce boot Give block calls
 ConvertsBy boot before block shared None calls = ⊥
 
 -- the calls are those of the block's conversion

@@ -13,8 +13,8 @@ pub mod Claims
 pub mod ConvertRows
 pub mod Cut
 pub mod Disjoint
-pub mod FitsTable
 pub mod FullOnlyWhereFull
+pub mod Given
 pub mod Holdings
 pub mod Legal
 pub mod Map
@@ -34,6 +34,7 @@ pub mod ReadableScript
 pub mod Refusals
 pub mod Runs
 pub mod Stub
+pub mod Table
 pub mod Texts
 pub mod Touches
 pub mod Turns

@@ -18,12 +18,17 @@ is_ram d = (nat_le 1 d.kind && nat_le d.kind 4) || ((d.kind == 7) || (d.kind == 
 abbrev pub holds_page : ℕ → Descriptor → Bool
 holds_page page d = in_range (d.start / 4096) d.pages page
 
+-- the page lies in unaccepted memory, or in RAM
+abbrev pub unaccepted_page : List Descriptor → ℕ → Bool
+unaccepted_page map page = list_any (λ d. is_unaccepted d && holds_page page d) map
+
+abbrev pub ram_page : List Descriptor → ℕ → Bool
+ram_page map page = list_any (λ d. is_ram d && holds_page page d) map
+
 -- the state that a page has by the map alone: Pending where its descriptor is unaccepted, Accepted where it is other RAM,
 -- and none where it isn't RAM
 abbrev pub first_state : List Descriptor → ℕ → Option PageState
-first_state map page =
-    if list_any (λ d. is_unaccepted d && holds_page page d) map then Some Pending
-    else (if list_any (λ d. is_ram d && holds_page page d) map then Some Accepted else None)
+first_state map page = if unaccepted_page map page then Some Pending else (if ram_page map page then Some Accepted else None)
 
 -- the end of a descriptor, in bytes
 abbrev pub descriptor_end : Descriptor → ℕ

@@ -5,7 +5,7 @@ use Rattle.guest_base.specs.declared.memory.Page.{Page}
 use Rattle.guest_base.specs.declared.memory.Units.{Units}
 use Rattle.guest_base.specs.declared.memory.Block.{Block}
 use Rattle.guest_base.specs.declared.memory.PageState.{PageState}
-use Rattle.guest_base.specs.declared.memory.PageState.TheVariants.{Accepted, Shared}
+use Rattle.guest_base.specs.declared.memory.PageState.TheVariants.{Pending, Accepted, Shared}
 use Rattle.guest_base.specs.declared.transfer.Request.{Request}
 use Rattle.event_core.specs.declared.boot.Boot.{Boot}
 use Rattle.event_core.specs.declared.module_call.ModuleCall.{ModuleCall}
@@ -148,6 +148,7 @@ unrefused_step boot cpu own there (command.Fill name off len byte) calls = repli
 unrefused_step boot cpu own there (command.Load name off) calls = option_and_then (λ h. load_step boot (entries_of there) h off) (block_named own name)
 unrefused_step boot cpu own there (command.Share name) calls = option_and_then (λ h. convert_step boot (entries_of there) own.converting h.block Shared calls) (block_named own name)
 unrefused_step boot cpu own there (command.Private name) calls = option_and_then (λ h. convert_step boot (entries_of there) own.converting h.block Accepted calls) (block_named own name)
+unrefused_step boot cpu own there (command.Giveback name) calls = option_and_then (λ h. convert_step boot (entries_of there) own.converting h.block Pending calls) (block_named own name)
 unrefused_step boot cpu own there (command.Map mapping name off len direction mask) calls =
     option_and_then (λ h. look_step boot (entries_of there) cpu own.looks (request_of (4096 * h.block.first + off) len mask)) (block_named own name)
 unrefused_step boot cpu own there (command.SyncDev mapping off len) calls = option_and_then (λ m. copy_step (asks_in m.direction) (event.CopiedIn m.run off len)) (mapping_named own mapping)

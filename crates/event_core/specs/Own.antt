@@ -58,8 +58,11 @@ abbrev pub after_alloc : List ℕ → Event → Own → Own
 after_alloc name (event.Got block) own = record own { blocks = record { name = name; block = block; sharing = PrivateBlock; bytes = zeros } ∷ own.blocks }
 after_alloc name _ own = own
 
+abbrev pub without_block : List ℕ → Own → Own
+without_block name own = record own { blocks = filter (λ (h : Holding). not (bytes_eq h.name name)) own.blocks }
+
 abbrev pub after_free : List ℕ → Event → Own → Own
-after_free name (event.Freed block) own = record own { blocks = filter (λ (h : Holding). not (bytes_eq h.name name)) own.blocks }
+after_free name (event.Freed block) own = without_block name own
 after_free name _ own = own
 
 -- bytes are written where the command is done; a refused one writes none
@@ -82,6 +85,14 @@ after_private (event.ConvertEnd block calls end.Converted) own = with_zeros bloc
 after_private (event.ConvertEnd block calls end.Refused) own = record own { converting = None }
 after_private (event.ConvertEnd block calls (end.Half page)) own = with_sharing block HalfBlock (record own { converting = None })
 after_private _ own = own
+
+-- a block that was given back is no longer had; one that the module refused stays
+abbrev pub after_giveback : List ℕ → Event → Own → Own
+after_giveback name (event.ConvertBegin block to) own = record own { converting = Some block }
+after_giveback name (event.ConvertEnd block calls end.Converted) own = without_block name (record own { converting = None })
+after_giveback name (event.ConvertEnd block calls end.Refused) own = record own { converting = None }
+after_giveback name (event.ConvertEnd block calls (end.Half page)) own = record own { converting = None }
+after_giveback name _ own = own
 
 -- a look that found slots makes a mapping of the named block; one that found none is counted
 abbrev pub after_map : List ℕ → List ℕ → ℕ → Direction → Event → Own → Own
@@ -117,6 +128,7 @@ told (Some (command.Write name off hex)) m own = after_write name off hex m.entr
 told (Some (command.Fill name off len byte)) m own = after_write name off (repeat len (byte ∷ [])) m.entry.reply own
 told (Some (command.Share name)) m own = after_share m.entry.event own
 told (Some (command.Private name)) m own = after_private m.entry.event own
+told (Some (command.Giveback name)) m own = after_giveback name m.entry.event own
 told (Some (command.Map mapping name off len direction mask)) m own = after_map mapping name off direction m.entry.event own
 told (Some (command.SyncCpu mapping off len)) m own = after_sync mapping off m.bytes m.entry.event own
 told (Some (command.Unmap mapping skip)) m own = after_unmap mapping m.bytes m.entry.event own

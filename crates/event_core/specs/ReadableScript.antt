@@ -1,6 +1,6 @@
 use Rattle.std.specs.Prelude.{ℕ, List, ◌≡◌, ◌⊎◌, ◌^◌, ◌<◌, ◌≤◌, length, sum_by, All}
 use Rattle.event_core.specs.declared.command.Command.{Command}
-use Rattle.event_core.specs.declared.command.Command.TheVariants.{Alloc, Free, Accept, Query, Read, Write, Fill, Load, Share, Private, Map, SyncDev, SyncCpu, Unmap, DRead, DWrite, HostRead, HostWrite}
+use Rattle.event_core.specs.declared.command.Command.TheVariants.{Alloc, Free, Accept, Query, Read, Write, Fill, Load, Share, Private, Giveback, Map, SyncDev, SyncCpu, Unmap, DRead, DWrite, HostRead, HostWrite}
 use Rattle.event_core.specs.Name.{IsName}
 
 -- The scripts that a command file can tell (own rule): the limits of a file's fields.
@@ -31,6 +31,7 @@ IsReadable (Fill name off len byte) = IsName name × IsNumber off × IsNumber le
 IsReadable (Load name off) = IsName name × IsNumber off
 IsReadable (Share name) = IsName name
 IsReadable (Private name) = IsName name
+IsReadable (Giveback name) = IsName name
 IsReadable (Map mapping name off len direction mask) = IsName mapping × IsName name × IsNumber off × IsNumber len × IsMask mask
 IsReadable (SyncDev mapping off len) = IsName mapping × IsNumber off × IsNumber len
 IsReadable (SyncCpu mapping off len) = IsName mapping × IsNumber off × IsNumber len

@@ -1,12 +1,14 @@
 use Rattle.std.specs.Prelude.{ℕ, Option, None, Some, Bool, not, ◌+◌, ◌-◌, ◌*◌, ◌^◌, ◌==◌, nat_lt, nat_le, is_some, is_none, length, if◌then◌else◌}
 use Rattle.guest_base.specs.Requests.{too_long}
+use Rattle.guest_base.specs.declared.memory.Block.{Block}
 use Rattle.event_core.specs.declared.boot.Boot.{Boot}
 use Rattle.event_core.specs.declared.command.Command.{Command}
-use Rattle.event_core.specs.declared.command.Command.TheVariants.{Alloc, Free, Accept, Query, Read, Write, Fill, Load, Share, Private, Map, SyncDev, SyncCpu, Unmap, DRead, DWrite, HostRead, HostWrite}
+use Rattle.event_core.specs.declared.command.Command.TheVariants.{Alloc, Free, Accept, Query, Read, Write, Fill, Load, Share, Private, Giveback, Map, SyncDev, SyncCpu, Unmap, DRead, DWrite, HostRead, HostWrite}
 use Rattle.event_core.specs.declared.reply.Reply.{Reply}
-use Rattle.event_core.specs.declared.reply.Reply.TheVariants.{Unknown, Taken, Range, IsShared, IsPrivate, Half, Mapped, TooLong, Zero, NoPool}
+use Rattle.event_core.specs.declared.reply.Reply.TheVariants.{Unknown, Taken, Range, IsShared, IsPrivate, Half, Mapped, TooLong, Zero, NoPool, Small, NoUnit}
 use Rattle.event_core.specs.Holdings.{Sharing, PrivateBlock, SharedBlock, HalfBlock, Holding, Own, block_named, mapping_named, is_mapped, block_bytes}
 use Rattle.event_core.specs.Pool.{area_of_offset}
+use Rattle.event_core.specs.Units.{in_units}
 
 -- The refusals of a command, the first one that holds (own rule).
 
@@ -44,6 +46,10 @@ pool_refusal boot off len =
     refuse Range (nat_lt (2048 * boot.slots) (off + len))
     (refuse Range (not (area_of_offset boot off == area_of_offset boot (off + len - 1))) None)
 
+-- a block that is given back is a whole block of order 10, and each of its pages lies in a unit of the bitmap
+abbrev pub give_refusal : Boot → Block → Option Reply
+give_refusal boot block = refuse Small (not (block.order == 10)) (refuse NoUnit (not (in_units boot block.first (2 ^ block.order))) None)
+
 -- the first refusal of a mapping of a block's bytes
 abbrev pub map_refusal : Boot → Holding → ℕ → ℕ → ℕ → Option Reply
 map_refusal boot h off len mask =
@@ -64,6 +70,7 @@ refusal_of boot own (Fill name off len byte) = unknown_or (block_named own name)
 refusal_of boot own (Load name off) = unknown_or (block_named own name) (λ h. unless_private h.sharing (refuse Range (nat_le (block_bytes h.block) off) None))
 refusal_of boot own (Share name) = unknown_or (block_named own name) (λ h. unless_private h.sharing (refuse Mapped (is_mapped own h.block) None))
 refusal_of boot own (Private name) = unknown_or (block_named own name) (λ h. if_private h.sharing)
+refusal_of boot own (Giveback name) = unknown_or (block_named own name) (λ h. unless_private h.sharing (refuse Mapped (is_mapped own h.block) (give_refusal boot h.block)))
 refusal_of boot own (Map mapping name off len direction mask) = refuse Taken (is_some (mapping_named own mapping)) (unknown_or (block_named own name) (λ h. map_refusal boot h off len mask))
 refusal_of boot own (SyncDev mapping off len) = unknown_or (mapping_named own mapping) (λ m. refuse Zero (len == 0) (past_end m.run.len off len))
 refusal_of boot own (SyncCpu mapping off len) = unknown_or (mapping_named own mapping) (λ m. refuse Zero (len == 0) (past_end m.run.len off len))

@@ -51,6 +51,8 @@ reply_text reply.TooLong = codes "toolong"
 reply_text reply.Zero = codes "zero"
 reply_text reply.Full = codes "full"
 reply_text reply.NoPool = codes "nopool"
+reply_text reply.Small = codes "small"
+reply_text reply.NoUnit = codes "nounit"
 reply_text reply.Module = codes "module"
 
 -- a page's state

@@ -1,10 +1,10 @@
-use Rattle.std.specs.Prelude.{ℕ, zero, suc, List, [], ◌∷◌, ◌++◌, Bool, true, false, ◌≡◌, ◌+◌, is_none, length, IsPermutation}
+use Rattle.std.specs.Prelude.{ℕ, zero, suc, List, [], ◌∷◌, ◌++◌, Bool, true, false, ◌≡◌, ◌+◌, ◌==◌, is_none, filter, length}
 use Rattle.event_core.specs.declared.boot.Boot.{Boot}
 use Rattle.event_core.specs.declared.command.Command.{Command}
 use Rattle.event_core.specs.declared.entry.Entry.{Entry}
 use Rattle.event_core.specs.Moved.{Moved, made_by}
 use Rattle.event_core.specs.Next.{next_step}
-use Rattle.event_core.specs.Legal.{Follows, with_bytes, at_place}
+use Rattle.event_core.specs.Legal.{Follows, with_bytes, with_moved, at_place}
 use Rattle.event_core.specs.declared.entry.Place.TheVariants.{Memory}
 
 -- Turns on one thread (own rule).
@@ -38,9 +38,16 @@ abbrev pub rounds_of : ℕ → ℕ → List ℕ
 rounds_of cpus zero = []
 rounds_of cpus (suc rounds) = numbers_from 0 cpus ++ rounds_of cpus rounds
 
--- Turns in an order, and then round all processors in rising order until all entries are taken, make these entries.
+-- the entries of one processor
+abbrev pub entries_by : ℕ → List Entry → List Entry
+entries_by cpu entries = filter (λ (e : Entry). e.cpu.0 == cpu) entries
+
+-- Turns in an order, and then round all processors in rising order until none of them has a next event, make these entries: each
+-- processor's entries are taken in their order in the history. (The history goes by stamps, so entries of several processors may
+-- stand in it in another order than that of the turns.)
 pub record Turned (boot : Boot) (scripts : List (List Command)) (order : List ℕ) (entries : List Entry) : Type 0 where
   pub taken : List Entry
-  pub same : IsPermutation entries taken
+  pub same : (cpu : ℕ) → entries_by cpu taken ≡ entries_by cpu entries
   pub rounds : ℕ
   pub turns : TakenIn boot scripts [] (order ++ rounds_of (length scripts) rounds) taken
+  pub ended : (cpu : ℕ) → is_idle boot scripts (with_moved boot scripts taken) cpu ≡ true

@@ -1,10 +1,11 @@
-use Rattle.std.specs.Prelude.{ℕ, List, Option, None, Some, Bool, true, false, ◌+◌, ◌-◌, ◌*◌, ◌/◌, ◌%◌, ◌==◌, ◌&&◌, nat_lt, fold, length, slice_index, max, min, if◌then◌else◌}
+use Rattle.std.specs.Prelude.{ℕ, List, Option, None, Some, Bool, true, false, ◌+◌, ◌-◌, ◌*◌, ◌/◌, ◌%◌, ◌==◌, ◌&&◌, nat_lt, nat_le, fold, length, slice_index, max, min, if◌then◌else◌}
 use Rattle.std.specs.Int.{bit_at}
 use Rattle.guest_base.specs.Search.{first_such, any_such, count_such, row_length}
 use Rattle.guest_base.specs.declared.memory.Units.{Units}
 use Rattle.event_core.specs.declared.boot.Boot.{Boot}
 use Rattle.event_core.specs.declared.module_call.ModuleCall.{ModuleCall}
-use Rattle.event_core.specs.declared.module_call.CallKind.TheVariants.{Accept, Share, Unshare}
+use Rattle.event_core.specs.declared.module_call.CallKind.{CallKind}
+use Rattle.event_core.specs.declared.module_call.CallKind.TheVariants.{Accept, Share, Unshare, Give}
 use Rattle.event_core.specs.Calls.{is_done, covers}
 
 -- A bitmap has a unit in bytes, a base in bytes and its bytes; bit k mod 8 of byte k / 8 is the unit that begins at base + k * unit.
@@ -43,18 +44,32 @@ guarded size base count start len =
 abbrev pub guarded_units : Boot → ℕ → ℕ → Option Units
 guarded_units boot start len = guarded boot.unit boot.base (unit_count boot.bits) start len
 
--- whether a page of the unit is unaccepted after a call: an accept that was answered Ok clears it, and no other call does anything
-abbrev pub mark_step : ℕ → Bool → ModuleCall → Bool
-mark_step page marked call = elim call.kind [ Accept ↦ (if is_done call && covers call page then false else marked) | Share ↦ marked | Unshare ↦ marked ]
+-- whether a page is marked as unaccepted after a call of it that was answered Ok: an accept clears the mark, giving back sets it
+abbrev pub mark_made : CallKind → Bool → Bool
+mark_made Accept marked = false
+mark_made Share marked = marked
+mark_made Unshare marked = marked
+mark_made Give marked = true
 
--- whether no call accepted the page, in a unit whose bit was set at first
+abbrev pub mark_step : ℕ → Bool → ModuleCall → Bool
+mark_step page marked call = if is_done call && covers call page then mark_made call.kind marked else marked
+
+-- whether a page is marked after calls: it was given back and not accepted since, or it was marked at first and never accepted
 abbrev pub is_marked : Bool → List ModuleCall → ℕ → Bool
 is_marked first calls page = fold (mark_step page) first calls
 
--- a unit's bit after calls (after Linux's bitmap of unaccepted units): it was set at first, and a page of the unit was never accepted
+-- a unit's bit after calls (after Linux's bitmap of unaccepted units): a page of the unit is marked, where at first all pages of a
+-- unit are marked whose bit is set; a unit outside the bitmap has a clear bit
 unfoldable pub bit_after : Boot → List ModuleCall → ℕ → Bool
 bit_after boot calls unit =
-    elim (bit_of boot.bits unit) as (λ _. Bool) [ true ↦ any_such (is_marked true calls) (unit_first boot unit) (unit_pages boot) | false ↦ false ]
+    elim (nat_lt unit (unit_count boot.bits)) as (λ _. Bool) [
+      | true ↦ any_such (is_marked (bit_of boot.bits unit) calls) (unit_first boot unit) (unit_pages boot)
+      | false ↦ false
+    ]
+
+-- whether pages all lie in units of the bitmap
+abbrev pub in_units : Boot → ℕ → ℕ → Bool
+in_units boot first count = nat_le (unit_first boot 0) first && nat_le (first + count) (unit_first boot (unit_count boot.bits))
 
 -- the run that begins at a number, of the numbers below end that pass a test
 abbrev pub run_at : (ℕ → Bool) → ℕ → Option ℕ → Option Units

@@ -31,7 +31,7 @@ pub type Order = Items<CpuNo>;
 /// What boot made of a map.
 #[derive(Debug, Drop)]
 pub struct Boot {
-    /// The maximal runs of RAM by the states that the map alone gives, rising.
+    /// The maximal runs of RAM by their first states, rising: those of the map, and of the table where one was handed in.
     pub ram: Runs,
     /// The host's records.
     pub hosts: Hosts,
@@ -39,7 +39,7 @@ pub struct Boot {
     pub base: u64,
     /// The bytes of a unit: 2 MiB unless a table was handed in.
     pub unit: u64,
-    /// The bitmap before any call: bit k mod 8 of byte k / 8 is unit k, set where it is unaccepted.
+    /// The bitmap before any call, the stub's or the table's: bit k mod 8 of byte k / 8 is unit k, set where it is unaccepted.
     pub bits: Bytes,
     /// The number of processors.
     pub cpus: u32,

@@ -47,6 +47,10 @@ pub enum Command {
     Private {
         name: Name,
     },
+    /// Gives a block of 4 MiB back to the host.
+    Giveback {
+        name: Name,
+    },
     Map {
         mapping: Name,
         name: Name,

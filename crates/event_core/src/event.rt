@@ -8,7 +8,7 @@ use guest_base::{Block, Page, PageState, SlotRun, Units};
 #[derive(Clone, Copy, Debug, PartialEq, Eq)]
 pub enum ConvertEnd {
     Converted,
-    /// The pages are as before.
+    /// The module refused the call: the pages are as before.
     Refused,
     /// The pages were taken back from the host, and accepting them again stopped at this page.
     Half(Page),
@@ -47,6 +47,7 @@ pub enum Event {
         page: Page,
         found: Found,
     },
+    /// A block is to become shared, private, which is Accepted, or given back, which is Pending.
     ConvertBegin {
         block: Block,
         to: PageState,

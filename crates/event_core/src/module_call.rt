@@ -11,6 +11,8 @@ pub enum CallKind {
     Share,
     /// Shared pages become Pending.
     Unshare,
+    /// Accepted pages become Pending: they are given back to the host.
+    Give,
 }
 
 /// What the secure module answers.

@@ -7,7 +7,7 @@ use guest_base::Bytes;
 pub enum Found {
     Accepted,
     Shared,
-    /// In conversion, or left half converted.
+    /// In conversion, left half converted, or given back and not accepted since.
     Absent,
     /// Not RAM.
     Outside,
@@ -38,5 +38,9 @@ pub enum Reply {
     Zero,
     Full,
     NoPool,
+    /// The block is smaller than 4 MiB.
+    Small,
+    /// A page of the block lies in no unit of the bitmap.
+    NoUnit,
     Module,
 }
