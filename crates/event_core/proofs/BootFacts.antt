@@ -1,5 +1,5 @@
 use Rattle.std.proofs.Common.{◌≡◌, ◌≢◌, ℕ, ◌+◌, ◌*◌, ◌/◌, ◌%◌, ◌^◌, ◌<◌, ◌≤◌, Bool, true, false, ◌&&◌, Option, None, Some, List, [], ◌∷◌, ◌++◌, refl, sym, ◌∙◌, ap, subst, inl, inr, arith, cond}
-use Rattle.std.specs.Prelude.{fold, ◌==◌, nat_lt}
+use Rattle.std.specs.Prelude.{fold, ◌-◌, ◌==◌, nat_lt, nat_le, not}
 use Rattle.std.specs.List.{AllByRecursion}
 use Rattle.std.proofs.lemmas.Bool.{cases_lt}
 use Rattle.std.proofs.lemmas.Bool.Decides.{nat_tests}
@@ -14,28 +14,41 @@ use Rattle.guest_base.specs.declared.memory.PageState.TheVariants.{Pending, Acce
 use Rattle.event_core.specs.declared.boot.Descriptor.{Descriptor}
 use Rattle.event_core.specs.declared.boot.Boot.{Boot}
 use Rattle.event_core.specs.declared.module_call.CallKind.{CallKind}
-use Rattle.event_core.specs.declared.module_call.CallKind.TheVariants.{Accept, Share, Unshare}
+use Rattle.event_core.specs.declared.module_call.CallKind.TheVariants.{Accept, Share, Unshare, Give}
 use Rattle.event_core.specs.declared.module_call.ModuleCall.{ModuleCall}
 use Rattle.event_core.specs.Acceptance.{AcceptanceSteps, goes_on_at, tried_at}
 use Rattle.event_core.specs.Boot.{BootRight, InTurn, StagePart, Stage, Early, PoolAccepted, PoolShared, BlockAccepted, AcceptsRun, AcceptsRange, SharesPool, set_runs}
 use Rattle.event_core.specs.Calls.{States, is_done, covers, after_call, state_after, state_before, state_made, SoundCalls}
-use Rattle.event_core.specs.Map.{MapRules}
+use Rattle.event_core.specs.Map.{MapRules, first_state, unaccepted_page, ram_page}
+use Rattle.event_core.specs.Table.{Bits, FitsTable, marks_page, is_unaccepted_unit, bad_unit}
+use Rattle.event_core.specs.Given.{FitsGiven, first_by}
+use Rattle.guest_base.proofs.RangeLemmas.{in_range-elim}
+use Rattle.guest_base.proofs.SearchLemmas.{first_such-None, each_such-true}
 use Rattle.event_core.specs.MemoryRows.{page_state, is_pending}
 use Rattle.event_core.specs.Runs.{state_in}
 use Rattle.event_core.specs.Stub.{default_unit, unaccepted, least_start, stub_base, stub_bit}
-use Rattle.event_core.specs.Units.{bit_of, is_marked, mark_step, unit_count, unit_first, unit_pages, guarded_units}
+use Rattle.event_core.specs.Units.{bit_of, is_marked, mark_step, mark_made, unit_count, unit_first, unit_pages, guarded_units}
 use Rattle.event_core.proofs.MapLemmas.{first_none, any_pending, pending_first}
 
 -- Facts about what boot makes of a map that meets its rules.
 
 -- ---- RAM and unaccepted units
 
+-- what isn't RAM by the map has no first state by a table either
+none-marked : (b c m : Bool) → cond b (Some Pending) (cond c (Some Accepted) None) ≡ None → cond (b && m) (Some Pending) (cond c (Some Accepted) None) ≡ None
+none-marked false c m h = h
+none-marked true c m h = cc
+
+none-by : (map : List Descriptor) (table : Option Bits) (page : ℕ) → first_state map page ≡ None → first_by map table page ≡ None
+none-by map None page h = h
+none-by map (Some t) page h = none-marked (unaccepted_page map page) (ram_page map page) (marks_page t page) h
+
 -- RAM lies below 2^28 pages
-pub ram-low : (map : List Descriptor) (hosts : List HostRun) (slots areas cpus : ℕ) (boot : Boot) → MapRules map hosts → BootRight map hosts slots areas cpus boot → (page : ℕ) → state_in boot.ram page ≢ None → page < 2 ^ 28
-ram-low map hosts slots areas cpus boot rules right page some =
+pub ram-low : (map : List Descriptor) (hosts : List HostRun) (table : Option Bits) (slots areas cpus : ℕ) (boot : Boot) → MapRules map hosts → BootRight map hosts table slots areas cpus boot → (page : ℕ) → state_in boot.ram page ≢ None → page < 2 ^ 28
+ram-low map hosts table slots areas cpus boot rules right page some =
     elim (cases_lt page (2 ^ 28)) [
       | inl low ↦ low
-      | inr high ↦ absurd (some (right.ram.each page ∙ first_none map page rules.each high))
+      | inr high ↦ absurd (some (right.ram.each page ∙ none-by map table page (first_none map page rules.each high)))
     ]
 
 -- a page of a unit lies in the unit's bytes
@@ -57,9 +70,41 @@ first-both false c h = cc
 lt-of : (a b : ℕ) → nat_lt a b ≡ true → a < b
 lt-of a b h = grind arith
 
+not-false : (b : Bool) → not b ≡ false → b ≡ true
+not-false true h = refl
+not-false false h = cc
+
+-- the unit in which a page of a unit lies
+unit-of : (base size unit page : ℕ) → base + unit * size ≤ page → page < base + unit * size + size → (page - base) / size ≡ unit
+unit-of base size unit page low high = grind arith
+
+marked-at : (table : Bits) (unit page : ℕ) → bit_of table.bits unit ≡ true → in_range (table.base / 4096 + unit * (table.unit / 4096)) (table.unit / 4096) page ≡ true → marks_page table page ≡ true
+marked-at table unit page set inside =
+    let within = in_range-elim (table.base / 4096 + unit * (table.unit / 4096)) (table.unit / 4096) page inside in
+    let first = within.0 in
+    let low : nat_le (table.base / 4096) page ≡ true = grind (arith, nat_tests, first) in
+    rw low (ap (bit_of table.bits) (unit-of (table.base / 4096) (table.unit / 4096) unit page within.0 within.1) ∙ set)
+
+-- a set unit of a table that fits has unaccepted pages
+fits-page : (map : List Descriptor) (table : Bits) (unit page : ℕ) → FitsTable map table → bit_of table.bits unit ≡ true → in_range (table.base / 4096 + unit * (table.unit / 4096)) (table.unit / 4096) page ≡ true → unaccepted_page map page ≡ true
+unfolding bad_unit
+fits-page map table unit page fits set inside =
+    let below = lt-of unit (unit_count table.bits) (first-both _ _ set) in
+    let end : unit < 0 + unit_count table.bits = omega (arith, below) in
+    let none = (first_such-None _ 0 (unit_count table.bits) fits.none_bad).fails unit (omega arith) end in
+    let whole : is_unaccepted_unit map table unit ≡ true = not-false _ (rw set at none) in
+    let within = in_range-elim (table.base / 4096 + unit * (table.unit / 4096)) (table.unit / 4096) page inside in
+    (each_such-true (unaccepted_page map) _ _ whole).passes page within.0 within.1
+
 -- the pages of a set unit are pending at first
-pub set-pending : (map : List Descriptor) (hosts : List HostRun) (slots areas cpus : ℕ) (boot : Boot) → MapRules map hosts → BootRight map hosts slots areas cpus boot → (unit page : ℕ) → bit_of boot.bits unit ≡ true → in_range (unit_first boot unit) (unit_pages boot) page ≡ true → state_in boot.ram page ≡ Some Pending
-set-pending map hosts slots areas cpus boot rules right unit page set inside =
+pub set-pending : (map : List Descriptor) (hosts : List HostRun) (table : Option Bits) (slots areas cpus : ℕ) (boot : Boot) → MapRules map hosts → FitsGiven map table → BootRight map hosts table slots areas cpus boot → (unit page : ℕ) → bit_of boot.bits unit ≡ true → in_range (unit_first boot unit) (unit_pages boot) page ≡ true → state_in boot.ram page ≡ Some Pending
+set-pending map hosts (Some table) slots areas cpus boot rules fits right unit page set inside =
+    let below = lt-of unit (unit_count boot.bits) (first-both _ _ set) in
+    let is : bit_of table.bits unit ≡ true = sym (right.bits unit below) ∙ set in
+    let here : in_range (table.base / 4096 + unit * (table.unit / 4096)) (table.unit / 4096) page ≡ true =
+    sym (ap (λ base. in_range (base / 4096 + unit * (boot.unit / 4096)) (boot.unit / 4096) page) right.base ∙ ap (λ size. in_range (table.base / 4096 + unit * (size / 4096)) (size / 4096) page) right.unit) ∙ inside in
+    right.ram.each page ∙ rw (fits-page map table unit page fits is here, marked-at table unit page is here) refl
+set-pending map hosts None slots areas cpus boot rules fits right unit page set inside =
     let at = in_unit boot.base boot.unit unit (least_start (unaccepted map)) page right.unit right.base inside in
     let below = lt-of unit (unit_count boot.bits) (first-both _ _ set) in
     let is : stub_bit map unit ≡ true = sym (right.bits unit below) ∙ set in
@@ -67,10 +112,10 @@ set-pending map hosts slots areas cpus boot rules right unit page set inside =
     let unit_at = subst (λ a. InUnit a page) place at in
     right.ram.each page ∙ pending_first map page (any_pending (stub_base map + unit * default_unit) page map rules.each is unit_at.low unit_at.high unit_at.even)
 
--- ---- boot makes no unshare call
+-- ---- boot's calls make no page pending
 
-abbrev pub IsNoUnshare : ModuleCall → Type 0
-IsNoUnshare call = call.kind ≢ Unshare
+abbrev pub TakesNone : ModuleCall → Type 0
+TakesNone call = state_made call.kind ≢ Pending
 
 all-append : {A : Type 0} (P : A → Type 0) (xs ys : List A) → AllByRecursion P xs → AllByRecursion P ys → AllByRecursion P (xs ++ ys)
 all-append P [] ys left right = right
@@ -84,35 +129,36 @@ in-turn-all Part P each done (item ∷ items) calls stop (inl stopped) = each do
 in-turn-all Part P each done (item ∷ items) calls stop (inr (now, later, is, part, rest)) =
     subst (AllByRecursion P) (sym is) (all-append P now later (each done item now None part) (in-turn-all Part P each (done ++ now) items later stop rest))
 
-kind-accept : (kind : CallKind) → kind ≡ Accept → kind ≢ Unshare
+kind-accept : (kind : CallKind) → kind ≡ Accept → state_made kind ≢ Pending
 kind-accept Accept is = λ no. cc
 kind-accept Share is = cc
 kind-accept Unshare is = cc
+kind-accept Give is = cc
 
-steps-all : (hosts : List HostRun) (set : ℕ → Bool) (end from : ℕ) (tried : Option Level) (calls : List ModuleCall) → AcceptanceSteps hosts set end from tried calls → AllByRecursion IsNoUnshare calls
+steps-all : (hosts : List HostRun) (set : ℕ → Bool) (end from : ℕ) (tried : Option Level) (calls : List ModuleCall) → AcceptanceSteps hosts set end from tried calls → AllByRecursion TakesNone calls
 steps-all hosts set end from tried [] steps = tt
 steps-all hosts set end from tried (call ∷ calls) steps = (kind-accept call.kind steps.2.kind, steps-all hosts set end (goes_on_at call) (tried_at call) calls steps.4)
 
-range-all : (boot : Boot) (done : List ModuleCall) (start len : ℕ) (calls : List ModuleCall) (stop : Option Page) → AcceptsRange boot done start len calls stop → AllByRecursion IsNoUnshare calls
+range-all : (boot : Boot) (done : List ModuleCall) (start len : ℕ) (calls : List ModuleCall) (stop : Option Page) → AcceptsRange boot done start len calls stop → AllByRecursion TakesNone calls
 range-all boot done start len calls stop turn =
-    in-turn-all (AcceptsRun boot) IsNoUnshare (λ before run now stopped part. steps-all boot.hosts _ _ _ None now part.0) done (set_runs boot done (guarded_units boot start len)) calls stop turn
+    in-turn-all (AcceptsRun boot) TakesNone (λ before run now stopped part. steps-all boot.hosts _ _ _ None now part.0) done (set_runs boot done (guarded_units boot start len)) calls stop turn
 
-shared-all : (pool : Pages) (calls : List ModuleCall) (stop : Option Page) → SharesPool pool calls stop → AllByRecursion IsNoUnshare calls
-shared-all pool calls None is = subst (AllByRecursion IsNoUnshare) (sym is) ((λ no. cc), tt)
-shared-all pool calls (Some page) is = subst (AllByRecursion IsNoUnshare) (sym is.0) ((λ no. cc), tt)
+shared-all : (pool : Pages) (calls : List ModuleCall) (stop : Option Page) → SharesPool pool calls stop → AllByRecursion TakesNone calls
+shared-all pool calls None is = subst (AllByRecursion TakesNone) (sym is) ((λ no. cc), tt)
+shared-all pool calls (Some page) is = subst (AllByRecursion TakesNone) (sym is.0) ((λ no. cc), tt)
 
-block-all : (boot : Boot) (done : List ModuleCall) (block : Block) (calls : List ModuleCall) (stop : Option Page) (ten : Bool) → elim ten as (λ _. Type 0) [ true ↦ (calls ≡ []) × (stop ≡ None) | false ↦ AcceptsRange boot done (4096 * block.first) (4096 * 2 ^ block.order) calls stop ] → AllByRecursion IsNoUnshare calls
-block-all boot done block calls stop true part = subst (AllByRecursion IsNoUnshare) (sym part.0) tt
+block-all : (boot : Boot) (done : List ModuleCall) (block : Block) (calls : List ModuleCall) (stop : Option Page) (ten : Bool) → elim ten as (λ _. Type 0) [ true ↦ (calls ≡ []) × (stop ≡ None) | false ↦ AcceptsRange boot done (4096 * block.first) (4096 * 2 ^ block.order) calls stop ] → AllByRecursion TakesNone calls
+block-all boot done block calls stop true part = subst (AllByRecursion TakesNone) (sym part.0) tt
 block-all boot done block calls stop false part = range-all boot done _ _ calls stop part
 
-stage-all : (boot : Boot) (done : List ModuleCall) (stage : Stage) (calls : List ModuleCall) (stop : Option Page) → StagePart boot done stage calls stop → AllByRecursion IsNoUnshare calls
+stage-all : (boot : Boot) (done : List ModuleCall) (stage : Stage) (calls : List ModuleCall) (stop : Option Page) → StagePart boot done stage calls stop → AllByRecursion TakesNone calls
 stage-all boot done (Early pages) calls stop part = steps-all boot.hosts _ _ _ None calls part.0
 stage-all boot done (PoolAccepted pages) calls stop part = range-all boot done _ _ calls stop part
 stage-all boot done (PoolShared pages) calls stop part = shared-all pages calls stop part
 stage-all boot done (BlockAccepted block) calls stop part = block-all boot done block calls stop (block.order == 10) part
 
-pub boot-no-unshare : (map : List Descriptor) (hosts : List HostRun) (slots areas cpus : ℕ) (boot : Boot) → BootRight map hosts slots areas cpus boot → AllByRecursion IsNoUnshare boot.calls
-boot-no-unshare map hosts slots areas cpus boot right = in-turn-all (StagePart boot) IsNoUnshare (stage-all boot) [] _ boot.calls None right.made.stages
+pub boot-takes-none : (map : List Descriptor) (hosts : List HostRun) (table : Option Bits) (slots areas cpus : ℕ) (boot : Boot) → BootRight map hosts table slots areas cpus boot → AllByRecursion TakesNone boot.calls
+boot-takes-none map hosts table slots areas cpus boot right = in-turn-all (StagePart boot) TakesNone (stage-all boot) [] _ boot.calls None right.made.stages
 
 -- ---- what is unaccepted is pending
 
@@ -120,7 +166,7 @@ both-second : (b c : Bool) → (b && c) ≡ true → c ≡ true
 both-second true c h = h
 both-second false c h = cc
 
-shared-mark : (b marked : Bool) (s : Option PageState) → marked ≡ is_pending s → (b ≡ true → s ≡ Some Accepted) → marked ≡ is_pending (cond b (Some Shared) s)
+shared-mark : (b marked : Bool) (s : Option PageState) → marked ≡ is_pending s → (b ≡ true → s ≡ Some Accepted) → cond b marked marked ≡ is_pending (cond b (Some Shared) s)
 shared-mark true marked s is sound = is ∙ ap is_pending (sound refl)
 shared-mark false marked s is sound = is
 
@@ -128,20 +174,21 @@ accept-mark : (b marked : Bool) (s : Option PageState) → marked ≡ is_pending
 accept-mark true marked s is = refl
 accept-mark false marked s is = is
 
-mark-one : (page : ℕ) (call : ModuleCall) (marked : Bool) (states : States) (kind : CallKind) → call.kind ≡ kind → kind ≢ Unshare → marked ≡ is_pending (states page) → (covers call page ≡ true → states page ≡ Some (state_before kind))
-    → elim kind as (λ _. Bool) [ Accept ↦ cond (is_done call && covers call page) false marked | Share ↦ marked | Unshare ↦ marked ] ≡ is_pending (cond (is_done call && covers call page) (Some (state_made kind)) (states page))
+mark-one : (page : ℕ) (call : ModuleCall) (marked : Bool) (states : States) (kind : CallKind) → call.kind ≡ kind → state_made kind ≢ Pending → marked ≡ is_pending (states page) → (covers call page ≡ true → states page ≡ Some (state_before kind))
+    → cond (is_done call && covers call page) (mark_made kind marked) marked ≡ is_pending (cond (is_done call && covers call page) (Some (state_made kind)) (states page))
 mark-one page call marked states Accept kind not is sound = accept-mark (is_done call && covers call page) marked (states page) is
 mark-one page call marked states Share kind not is sound = shared-mark (is_done call && covers call page) marked (states page) is (λ b. sound (both-second (is_done call) (covers call page) b))
 mark-one page call marked states Unshare kind not is sound = absurd (not refl)
+mark-one page call marked states Give kind not is sound = absurd (not refl)
 
-marks-sound : (page : ℕ) (calls : List ModuleCall) (marked : Bool) (states : States) → marked ≡ is_pending (states page) → SoundCalls states calls → AllByRecursion IsNoUnshare calls → fold (mark_step page) marked calls ≡ is_pending (state_after states calls page)
+marks-sound : (page : ℕ) (calls : List ModuleCall) (marked : Bool) (states : States) → marked ≡ is_pending (states page) → SoundCalls states calls → AllByRecursion TakesNone calls → fold (mark_step page) marked calls ≡ is_pending (state_after states calls page)
 marks-sound page [] marked states is sound all = is
 marks-sound page (call ∷ calls) marked states is sound all =
     marks-sound page calls (mark_step page marked call) (after_call states call)
     (mark-one page call marked states call.kind refl all.0 is (λ covered. sound.0 page covered)) sound.1 all.1
 
 -- after sound calls of boot a page of a set unit is unaccepted exactly where it is pending
-pub boot-marks : (map : List Descriptor) (hosts : List HostRun) (slots areas cpus : ℕ) (boot : Boot) → MapRules map hosts → BootRight map hosts slots areas cpus boot → SoundCalls (state_in boot.ram) boot.calls
+pub boot-marks : (map : List Descriptor) (hosts : List HostRun) (table : Option Bits) (slots areas cpus : ℕ) (boot : Boot) → MapRules map hosts → FitsGiven map table → BootRight map hosts table slots areas cpus boot → SoundCalls (state_in boot.ram) boot.calls
     → (unit page : ℕ) → bit_of boot.bits unit ≡ true → in_range (unit_first boot unit) (unit_pages boot) page ≡ true → is_marked true boot.calls page ≡ is_pending (page_state boot boot.calls page)
-boot-marks map hosts slots areas cpus boot rules right sound unit page set inside =
-    marks-sound page boot.calls true (state_in boot.ram) (sym (ap is_pending (set-pending map hosts slots areas cpus boot rules right unit page set inside))) sound (boot-no-unshare map hosts slots areas cpus boot right)
+boot-marks map hosts table slots areas cpus boot rules fits right sound unit page set inside =
+    marks-sound page boot.calls true (state_in boot.ram) (sym (ap is_pending (set-pending map hosts table slots areas cpus boot rules fits right unit page set inside))) sound (boot-takes-none map hosts table slots areas cpus boot right)

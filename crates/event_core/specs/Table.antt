@@ -1,5 +1,5 @@
-use Rattle.std.specs.Prelude.{ℕ, List, Option, None, Bool, ◌≡◌, ◌+◌, ◌-◌, ◌*◌, ◌/◌, ◌%◌, ◌^◌, ◌≤◌, ◌&&◌, nat_le, not, length}
-use Rattle.guest_base.specs.Search.{first_such, each_such}
+use Rattle.std.specs.Prelude.{ℕ, List, Option, None, Bool, true, ◌≡◌, ◌+◌, ◌-◌, ◌*◌, ◌/◌, ◌%◌, ◌^◌, ◌==◌, ◌≤◌, ◌&&◌, nat_le, not, length}
+use Rattle.guest_base.specs.Search.{first_such, any_such, each_such}
 use Rattle.event_core.specs.declared.boot.Descriptor.{Descriptor}
 use Rattle.event_core.specs.Map.{unaccepted_page}
 use Rattle.event_core.specs.Units.{bit_of, unit_count}
@@ -14,8 +14,8 @@ pub record Bits : Type 0 where
   pub bits : List ℕ
 
 -- a unit is a power of two from 4 KiB to 2 MiB
-abbrev pub IsUnit : ℕ → Type 0
-IsUnit unit = (order : ℕ) × (order ≤ 9) × (unit ≡ 4096 * 2 ^ order)
+abbrev pub is_unit : ℕ → Bool
+is_unit unit = any_such (λ order. unit == 4096 * 2 ^ order) 0 10
 
 -- the most bytes of bits from a base on: their last byte begins below 2^40
 abbrev pub most_bytes : ℕ → ℕ → ℕ
@@ -23,7 +23,7 @@ most_bytes unit base = (2 ^ 40 - base + 8 * unit - 1) / (8 * unit)
 
 -- what holds of each table: its base stands on a unit's border within memory, and it reaches less than a byte of bits past memory
 pub record IsTable (table : Bits) : Type 0 where
-  pub unit_is : IsUnit table.unit
+  pub unit_is : is_unit table.unit ≡ true
   pub aligned : table.base % table.unit ≡ 0
   pub low : table.base ≤ 2 ^ 40
   pub few : length table.bits ≤ most_bytes table.unit table.base

@@ -10,7 +10,7 @@ use Rattle.event_core.specs.declared.module_call.ModuleCall.{ModuleCall}
 use Rattle.event_core.specs.Boot.{BootRight, PoolPlaced, InTurn, StagePart, stages_of}
 use Rattle.event_core.specs.Map.{MapRules, first_state}
 use Rattle.event_core.specs.Runs.{AreMaximalRuns}
-use Rattle.unaccepted_bitmap.specs.BitmapValue.{Bits}
+use Rattle.event_core.specs.Table.{Bits}
 use Rattle.unaccepted_bitmap.specs.StubMap.{StubBitmap, EarlyRuns, pending_run}
 use Rattle.memory_core.specs.Booted.{IsBooted}
 use Rattle.guest_boot.specs.Booting.{IsEarly}

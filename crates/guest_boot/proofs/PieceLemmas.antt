@@ -26,7 +26,7 @@ use Rattle.page_module.specs.Tables.{Table, without}
 use Rattle.page_module.specs.declared.ticket.Ticket.{Ticket}
 use Rattle.page_module.proofs.OutLemmas.{same_ticket-refl}
 use Rattle.accept_sizes.specs.Accepts.{pending_of}
-use Rattle.unaccepted_bitmap.specs.BitmapValue.{Bits}
+use Rattle.event_core.specs.Table.{Bits}
 use Rattle.memory_core.specs.Bitmaps.{BitsAfter}
 use Rattle.memory_core.specs.Booted.{IsBooted, MarksArePending}
 use Rattle.memory_core.proofs.RunLemmas.{marks-push, steps-accept, bits-inside, state_after-same, state_after-some}

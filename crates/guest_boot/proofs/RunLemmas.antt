@@ -16,7 +16,7 @@ use Rattle.page_module.specs.States.{state_in}
 use Rattle.page_module.specs.Spans.{Taken}
 use Rattle.page_module.specs.Tables.{Table}
 use Rattle.accept_sizes.specs.Accepts.{pending_of}
-use Rattle.unaccepted_bitmap.specs.BitmapValue.{Bits}
+use Rattle.event_core.specs.Table.{Bits}
 use Rattle.memory_core.specs.Bitmaps.{bits_in, BitsAfter, PagesOf, ClearedIn}
 use Rattle.memory_core.specs.Booted.{IsBooted}
 use Rattle.memory_core.specs.Steps.{pages_of}

@@ -11,7 +11,7 @@ use Rattle.event_core.specs.Units.{bit_after, first_run, run_at, units_end, guar
 use Rattle.memory_core.specs.Bitmaps.{bits_in, guarded_by, BitsAfter}
 use Rattle.memory_core.proofs.BitsLemmas.{guarded-same}
 use Rattle.memory_core.proofs.UnitsLemmas.{IsRunIn, first_run-facts}
-use Rattle.unaccepted_bitmap.specs.BitmapValue.{Bits}
+use Rattle.event_core.specs.Table.{Bits}
 use Rattle.guest_boot.specs.Booting.{runs_in}
 
 -- The runs of set bits among units.

@@ -11,7 +11,7 @@ use Rattle.event_core.specs.MemoryRows.{pending_in}
 use Rattle.event_core.specs.Units.{bit_after}
 use Rattle.unaccepted_bitmap.specs.StubMap.{pending_run}
 use Rattle.memory_core.specs.Bitmaps.{BitsAfter}
-use Rattle.unaccepted_bitmap.specs.BitmapValue.{Bits}
+use Rattle.event_core.specs.Table.{Bits}
 use Rattle.guest_boot.specs.Booting.{Grew}
 use Rattle.guest_boot.proofs.InTurnLemmas.{Parts, turn-append, turn-before, turn-map, turn-unmap, turn-same}
 

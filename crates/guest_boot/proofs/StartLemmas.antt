@@ -24,7 +24,7 @@ use Rattle.event_core.specs.Units.{bit_of, bit_after, unit_count, unit_first, un
 use Rattle.event_core.proofs.MapLemmas.{first_none, any_pending, pending_first}
 use Rattle.page_module.specs.States.{state_in}
 use Rattle.page_module.specs.Tables.{Rising}
-use Rattle.unaccepted_bitmap.specs.BitmapValue.{Bits}
+use Rattle.event_core.specs.Table.{Bits}
 use Rattle.unaccepted_bitmap.specs.StubMap.{StubBitmap, EarlyRuns}
 use Rattle.memory_core.specs.Bitmaps.{bits_in, SameBits}
 use Rattle.memory_core.specs.Booted.{IsBooted}

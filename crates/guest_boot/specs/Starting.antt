@@ -9,7 +9,7 @@ use Rattle.event_core.specs.Map.{first_state}
 use Rattle.event_core.specs.Runs.{AreMaximalRuns}
 use Rattle.event_core.specs.Stub.{default_unit, stub_base, stub_length, stub_bit}
 use Rattle.event_core.specs.Units.{bit_of, unit_count}
-use Rattle.unaccepted_bitmap.specs.BitmapValue.{Bits}
+use Rattle.event_core.specs.Table.{Bits}
 
 -- What boot makes of a map before its first call.
 

@@ -23,7 +23,7 @@ use Rattle.page_module.specs.States.{state_in}
 use Rattle.page_module.specs.Tables.{Table, is_out, run_count}
 use Rattle.page_module.specs.declared.ticket.Ticket.{Ticket}
 use Rattle.page_module.proofs.OutLemmas.{is_out-last, is_out-more}
-use Rattle.unaccepted_bitmap.specs.BitmapValue.{Bits}
+use Rattle.event_core.specs.Table.{Bits}
 use Rattle.accepting_ranges.specs.Claims.{range_of, MeetsNone}
 use Rattle.memory_core.specs.Bitmaps.{bits_in}
 use Rattle.memory_core.specs.Steps.{bare_entry, last_stamp, pages_of}

@@ -14,7 +14,7 @@ use Rattle.event_core.specs.Calls.{calls_of}
 use Rattle.event_core.specs.MemoryRows.{page_state, run_of_claim}
 use Rattle.event_core.specs.Units.{bit_after, guarded_units, first_run}
 use Rattle.page_module.specs.Spans.{Taken}
-use Rattle.unaccepted_bitmap.specs.BitmapValue.{Bits}
+use Rattle.event_core.specs.Table.{Bits}
 use Rattle.accepting_ranges.specs.Claims.{MeetsNone}
 use Rattle.memory_core.specs.Bitmaps.{bits_in, guarded_by, both_or_none, SameBits, MeetsNoneOf}
 use Rattle.memory_core.specs.Value.{MemoryValue, Handed}

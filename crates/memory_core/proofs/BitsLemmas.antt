@@ -11,7 +11,7 @@ use Rattle.event_core.specs.declared.entry.Entry.{Entry}
 use Rattle.event_core.specs.Calls.{calls_of}
 use Rattle.event_core.specs.MemoryRows.{run_of_claim, some_unaccepted}
 use Rattle.event_core.specs.Units.{bit_of, bit_after, unit_first, unit_pages, unit_count, first_run, guarded, guarded_units, with_guard, units_between}
-use Rattle.unaccepted_bitmap.specs.BitmapValue.{Bits}
+use Rattle.event_core.specs.Table.{Bits}
 use Rattle.memory_core.specs.Bitmaps.{bits_in, guarded_by, any_in, SameBits, PagesOf, ClearedIn, unit_first_of, unit_pages_of}
 use Rattle.memory_core.specs.Steps.{pages_of}
 use Rattle.memory_core.proofs.UnitsLemmas.{in_range-intro, first_run-same}

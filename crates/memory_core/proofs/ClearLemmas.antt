@@ -10,7 +10,8 @@ use Rattle.page_module.specs.Spans.{Taken}
 use Rattle.page_module.specs.Marking.{IsFirstPending, NonePending}
 use Rattle.accept_sizes.specs.Accepts.{pending_of}
 use Rattle.accept_sizes.proofs.Going.{is_pending-Some, is_pending-not}
-use Rattle.unaccepted_bitmap.specs.BitmapValue.{Bits, ClearsBits}
+use Rattle.event_core.specs.Table.{Bits}
+use Rattle.unaccepted_bitmap.specs.BitmapValue.{ClearsBits}
 use Rattle.memory_core.specs.Bitmaps.{ClearedBy, unit_first_of, unit_pages_of}
 
 in_range-intro : (first count n : ℕ) → first ≤ n → n < first + count → in_range first count n ≡ true

@@ -21,7 +21,7 @@ use Rattle.page_module.specs.States.{state_in}
 use Rattle.page_module.specs.Tables.{Table, is_out, run_count}
 use Rattle.page_module.specs.declared.ticket.Ticket.{Ticket}
 use Rattle.page_module.proofs.OutLemmas.{length-without}
-use Rattle.unaccepted_bitmap.specs.BitmapValue.{Bits}
+use Rattle.event_core.specs.Table.{Bits}
 use Rattle.accept_sizes.specs.Accepts.{pending_of}
 use Rattle.accept_sizes.specs.declared.accept.RunEnd.{RunEnd}
 use Rattle.accepting_ranges.specs.Claims.{range_of}

@@ -20,7 +20,7 @@ use Rattle.page_module.specs.Spans.{Taken}
 use Rattle.page_module.specs.States.{state_in}
 use Rattle.page_module.specs.Tables.{Table, run_count}
 use Rattle.page_module.proofs.CopyLemmas.{run_count-few}
-use Rattle.unaccepted_bitmap.specs.BitmapValue.{Bits}
+use Rattle.event_core.specs.Table.{Bits}
 use Rattle.accepting_ranges.specs.Claims.{range_of, Meet, MeetsNone}
 use Rattle.memory_core.specs.Bitmaps.{bits_in, MeetsNoneOf, IsFirstMet}
 use Rattle.memory_core.specs.Steps.{HasStates, pages_of}

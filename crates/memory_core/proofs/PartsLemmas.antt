@@ -21,7 +21,7 @@ use Rattle.event_core.proofs.BootFacts.{set-pending, ram-low, boot-marks}
 use Rattle.page_module.specs.States.{state_in}
 use Rattle.page_module.specs.Tables.{Table}
 use Rattle.page_module.specs.declared.ticket.Ticket.{Ticket}
-use Rattle.unaccepted_bitmap.specs.BitmapValue.{Bits}
+use Rattle.event_core.specs.Table.{Bits}
 use Rattle.accepting_ranges.specs.Claims.{range_of}
 use Rattle.memory_core.specs.Bitmaps.{bits_in, BitsAfter}
 use Rattle.memory_core.specs.Booted.{IsBooted}

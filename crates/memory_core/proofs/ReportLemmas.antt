@@ -17,7 +17,7 @@ use Rattle.page_module.specs.States.{state_in}
 use Rattle.page_module.specs.Tables.{Table, is_out, without, run_count}
 use Rattle.page_module.specs.declared.ticket.Ticket.{Ticket}
 use Rattle.page_module.proofs.OutLemmas.{is_out-last, is_out-more, is_out-less}
-use Rattle.unaccepted_bitmap.specs.BitmapValue.{Bits}
+use Rattle.event_core.specs.Table.{Bits}
 use Rattle.accept_sizes.specs.Accepts.{pending_of}
 use Rattle.accept_sizes.specs.Ends.{stopped_at}
 use Rattle.accept_sizes.specs.declared.accept.RunEnd.{RunEnd}

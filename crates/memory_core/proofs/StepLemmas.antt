@@ -17,7 +17,7 @@ use Rattle.event_core.specs.Calls.{calls_of}
 use Rattle.event_core.specs.Claims.{Claimed, claim_of, claim_step, opened}
 use Rattle.event_core.proofs.StandingLemmas.{calls_of-push, claim_of-push}
 use Rattle.page_module.specs.Tables.{Table}
-use Rattle.unaccepted_bitmap.specs.BitmapValue.{Bits}
+use Rattle.event_core.specs.Table.{Bits}
 use Rattle.memory_core.specs.Bitmaps.{bits_in, both_or_none}
 use Rattle.memory_core.specs.Steps.{last_stamp, bare_entry}
 use Rattle.memory_core.specs.StandsFor.{StandsFor, HoldsFor, kept_by}

@@ -9,7 +9,8 @@ use Rattle.event_core.specs.Units.{bit_of, bit_after, first_run}
 use Rattle.accepting_ranges.specs.Claims.{MeetsNone, IsFirstToMeet}
 use Rattle.accept_sizes.specs.declared.accept.RunEnd.{RunEnd}
 use Rattle.accept_sizes.specs.declared.accept.RunEnd.TheVariants.{Whole, Stopped}
-use Rattle.unaccepted_bitmap.specs.BitmapValue.{Bits, guarded_in}
+use Rattle.event_core.specs.Table.{Bits}
+use Rattle.unaccepted_bitmap.specs.BitmapValue.{guarded_in}
 
 -- The kept bitmap, where there is one.
 

@@ -15,7 +15,7 @@ use Rattle.event_core.specs.Units.{bit_after, unit_pages, units_end}
 use Rattle.page_module.specs.States.{state_in}
 use Rattle.page_module.specs.Tables.{Table, is_out}
 use Rattle.page_module.specs.declared.ticket.Ticket.{Ticket}
-use Rattle.unaccepted_bitmap.specs.BitmapValue.{Bits}
+use Rattle.event_core.specs.Table.{Bits}
 use Rattle.accepting_ranges.specs.Claims.{range_of}
 use Rattle.memory_core.specs.Bitmaps.{bits_in, SameBits}
 use Rattle.memory_core.specs.Booted.{IsBooted, MarksArePending}

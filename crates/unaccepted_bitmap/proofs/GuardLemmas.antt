@@ -3,7 +3,8 @@ use Rattle.std.specs.Prelude.{Option, IfSome, nat_lt, if◌then◌else◌}
 use Rattle.std.proofs.lemmas.Bool.{cases_Bool, cases_lt, ltb-true}
 use Rattle.guest_base.specs.declared.memory.Units.{Units}
 use Rattle.event_core.specs.Units.{unit_count, guarded, units_between, with_guard}
-use Rattle.unaccepted_bitmap.specs.BitmapValue.{Bits, IsBitmap}
+use Rattle.event_core.specs.Table.{Bits}
+use Rattle.unaccepted_bitmap.specs.BitmapValue.{IsBitmap}
 
 -- units that lie below a bitmap's end, of which there is one
 pub record AreInside (count : ℕ) (units : Units) : Type 0 where

@@ -9,7 +9,8 @@ use Rattle.efi_map.specs.Spelling.{low_bytes}
 use Rattle.efi_map.proofs.Again.{low_length, number_again, low_drop, low_past}
 use Rattle.event_core.specs.Stub.{default_unit}
 use Rattle.unaccepted_bitmap.specs.declared.table.Header.{Header}
-use Rattle.unaccepted_bitmap.specs.BitmapValue.{Bits, IsBitmap}
+use Rattle.event_core.specs.Table.{Bits}
+use Rattle.unaccepted_bitmap.specs.BitmapValue.{IsBitmap}
 use Rattle.unaccepted_bitmap.specs.TableFile.{header_of, header_fault, most_bytes, table_fault, table_of, table_bytes_of}
 
 pub take_rest : (n : ℕ) (xs : List ℕ) → take (length xs - n) (drop n xs) ≡ drop n xs

@@ -4,12 +4,6 @@ use Rattle.guest_base.specs.Search.{any_such}
 use Rattle.guest_base.specs.declared.memory.Units.{Units}
 use Rattle.event_core.specs.Units.{unit_count, bit_of, guarded}
 
--- a bitmap of unaccepted units: the bytes of a unit, the address of the first unit, and the bytes of bits
-pub record Bits : Type 0 where
-  pub unit : ℕ
-  pub base : ℕ
-  pub bits : List ℕ
-
 -- what holds of every bitmap: a unit is whole pages and at most 2 MiB, the base stands on a unit's border within memory, and less
 -- than a byte of bits lies behind memory's end (after the size of Linux's unaccepted table)
 pub record IsBitmap (b : Bits) : Type 0 where

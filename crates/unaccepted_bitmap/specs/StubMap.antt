@@ -9,7 +9,7 @@ use Rattle.event_core.specs.declared.boot.Descriptor.{Descriptor}
 use Rattle.event_core.specs.Stub.{default_unit, unaccepted, stub_base, stub_length, stub_bit, is_short, holds_unit, EarlyPieces, round_down, round_up, least_start, greatest_end, StartsRise}
 use Rattle.event_core.specs.Map.{descriptor_end}
 use Rattle.event_core.specs.Units.{bit_of, unit_count}
-use Rattle.unaccepted_bitmap.specs.BitmapValue.{Bits}
+use Rattle.event_core.specs.Table.{Bits}
 
 -- the bitmap is the one that the boot stub makes of a map with unaccepted descriptors
 pub record IsStubBitmap (map : List Descriptor) (b : Bits) : Type 0 where

@@ -8,7 +8,7 @@ use Rattle.event_core.specs.Stub.{default_unit}
 use Rattle.unaccepted_bitmap.specs.declared.fault.TableFault.{TableFault}
 use Rattle.unaccepted_bitmap.specs.declared.fault.TableFault.TheVariants.{Short, BadVersion, BadUnit, BadBase, BadLength, NoMemory}
 use Rattle.unaccepted_bitmap.specs.declared.table.Header.{Header}
-use Rattle.unaccepted_bitmap.specs.BitmapValue.{Bits}
+use Rattle.event_core.specs.Table.{Bits}
 
 -- What a function returned is what reading gives, unless memory ran out.
 abbrev pub GivesTable : Result Bits TableFault → Result Bits TableFault → Type 0

@@ -1,7 +1,8 @@
 //! A bitmap of unaccepted units.
 ghost use Rattle.std.specs.Prelude.{◌≡◌, ℕ, ◌+◌, ◌^◌, ◌<◌, ◌≤◌, Ok, IfOk, IfSome};
 ghost use Rattle.event_core.specs.Units.{unit_count, bit_of, first_run};
-ghost use Rattle.unaccepted_bitmap.specs.BitmapValue.{Bits, IsBitmap, ClearsBits, guarded_in, any_unit};
+ghost use Rattle.event_core.specs.Table.{Bits};
+ghost use Rattle.unaccepted_bitmap.specs.BitmapValue.{IsBitmap, ClearsBits, guarded_in, any_unit};
 ghost use Rattle.event_core.specs.Stub.{default_unit};
 ghost use Rattle.unaccepted_bitmap.specs.TableFile.{table_of, table_bytes_of};
 
@@ -24,7 +25,8 @@ pub struct Bitmap {
 }
 
 impl Model for Bitmap {
-    ghost use Rattle.unaccepted_bitmap.specs.BitmapValue.{Bits, IsBitmap};
+    ghost use Rattle.event_core.specs.Table.{Bits};
+    ghost use Rattle.unaccepted_bitmap.specs.BitmapValue.{IsBitmap};
 
     ghost Value = { Bits };
 

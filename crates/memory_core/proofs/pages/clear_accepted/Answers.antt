@@ -1,5 +1,6 @@
 use Rattle.std.proofs.Common.{◌≡◌, true, false, sym, ◌∙◌, ap, rules, subst}
-use Rattle.unaccepted_bitmap.specs.BitmapValue.{Bits, ClearsBits}
+use Rattle.event_core.specs.Table.{Bits}
+use Rattle.unaccepted_bitmap.specs.BitmapValue.{ClearsBits}
 use Rattle.accept_sizes.specs.Accepts.{pending_of}
 use Rattle.memory_core.proofs.ClearLemmas.{further-start, further-clear, further-keep}
 use Rattle.memory_core.proofs.pages.clear_accepted.Goals as goal

@@ -1,7 +1,7 @@
 use Rattle.std.proofs.Common.{◌≡◌, ◌-◌, ◌∙◌, Ok, None, length, take, drop, sym, ap, arith, nat_lt, false, refl}
 use Rattle.std.proofs.lemmas.Bool.Decides.{nat_tests}
 use Rattle.std.proofs.lemmas.List.{length-drop}
-use Rattle.unaccepted_bitmap.specs.BitmapValue.{Bits}
+use Rattle.event_core.specs.Table.{Bits}
 use Rattle.unaccepted_bitmap.specs.TableFile.{header_fault}
 use Rattle.unaccepted_bitmap.proofs.TableLemmas.{table_right, take_rest}
 use Rattle.unaccepted_bitmap.proofs.table.read_table.Goals as goal

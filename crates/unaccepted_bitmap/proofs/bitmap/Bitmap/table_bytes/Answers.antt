@@ -1,7 +1,7 @@
 use Rattle.std.proofs.Common.{◌≡◌, Ok, subst}
 use Rattle.std.specs.Result.{IfOk}
 use Rattle.event_core.specs.Stub.{default_unit}
-use Rattle.unaccepted_bitmap.specs.BitmapValue.{Bits}
+use Rattle.event_core.specs.Table.{Bits}
 use Rattle.unaccepted_bitmap.specs.TableFile.{table_of}
 use Rattle.unaccepted_bitmap.proofs.TableLemmas.{again_of}
 use Rattle.unaccepted_bitmap.proofs.bitmap.Bitmap.table_bytes.Goals as goal
