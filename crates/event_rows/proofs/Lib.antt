@@ -4,12 +4,17 @@ pub mod BootFacts
 pub mod BounceFacts
 pub mod ConversionFacts
 pub mod Evaluated
+pub mod FreeLemmas
+pub mod GivingFacts
+pub mod MeanwhileFacts
 pub mod OnePageFacts
 pub mod PickLemmas
 pub mod PoolBootFacts
 pub mod PrintFacts
 pub mod RowLemmas
+pub mod SmallUnitFacts
 pub mod SplitLemmas
+pub mod StrayFacts
 pub mod TouchFacts
 pub mod TwoFacts
 pub mod WaitingFacts

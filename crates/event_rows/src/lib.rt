@@ -8,8 +8,12 @@ mod blocks;
 mod booted;
 mod bounces;
 mod conversions;
+mod giving;
+mod meanwhile;
 mod processors;
+mod small_units;
 mod steps;
+mod straying;
 mod touches;
 mod waiting;
 
@@ -24,10 +28,24 @@ pub use blocks::{block_got_is_whole, block_misread_is_not};
 pub use booted::{boot_is_stopped, pool_guest_is_booted, small_guest_is_booted};
 pub use bounces::{block_bounced_is_whole, block_miscopied_is_not, device_misread_is_not};
 pub use conversions::{block_converted_is_whole, bytes_kept_is_not, half_block_found_is_not};
+pub use giving::{
+    bits_left_is_not, given_block_is_not_owned, given_block_is_whole, giveback_ends_by_its_call,
+    giveback_is_admitted, giveback_is_refused,
+};
+pub use meanwhile::{
+    claim_goes_by_its_bits, given_meanwhile_is_whole, given_meanwhile_taken_is_not,
+};
 pub use processors::{
     both_accept_is_whole, claim_too_early_is_not, first_miscounted_is_not, second_miscounted_is_not,
 };
+pub use small_units::{
+    guard_is_one_page, small_unit_accepted_is_whole, small_unit_miscounted_is_not,
+    table_tells_first_states,
+};
 pub use steps::blocked_whatever_is_answered;
+pub use straying::{
+    accepted_page_is_there, given_page_found_is_not, given_page_is_absent, given_page_is_whole,
+};
 pub use touches::{
     bounces_are_disjoint, bounces_touch_the_block, conversions_are_untouched,
     conversions_touch_private_pages,
