@@ -1,4 +1,4 @@
-use Rattle.std.proofs.Common.{◌≡◌, ◌⊎◌, ℕ, zero, suc, ◌+◌, ◌-◌, ◌*◌, ◌/◌, ◌%◌, ◌<◌, ◌≤◌, Bool, true, false, ◌&&◌, List, [], ◌∷◌, ◌++◌, Option, None, Some, refl, sym, ◌∙◌, ap, subst, inl, inr, arith, cond, length, map, filter, get_or}
+use Rattle.std.proofs.Common.{◌≡◌, ◌⊎◌, ℕ, suc, ◌+◌, ◌-◌, ◌*◌, ◌/◌, ◌%◌, ◌<◌, ◌≤◌, Bool, true, false, ◌&&◌, List, [], ◌∷◌, ◌++◌, Option, None, Some, refl, sym, ◌∙◌, ap, subst, inl, inr, arith, cond, length, map, get_or}
 use Rattle.std.specs.Prelude.{◌||◌, All, nat_lt, if◌then◌else◌}
 use Rattle.std.specs.List.{list_any, AllPairs, AllByRecursion, flat_map}
 use Rattle.std.proofs.lemmas.Bool.{cases_Bool}
@@ -8,14 +8,13 @@ use Rattle.std.proofs.lemmas.List.Folds.{list_any_none, list_any-append}
 use Rattle.std.proofs.lemmas.List.Kept.{AllPairs-filter}
 use Rattle.std.proofs.lemmas.List.Sorted.{list_any-IsPermutation}
 use Rattle.guest_base.specs.Ranges.{in_range}
-use Rattle.guest_base.proofs.RangeLemmas.{in_range-elim}
 use Rattle.guest_base.specs.declared.memory.Pages.{Pages}
 use Rattle.event_core.specs.declared.boot.Descriptor.{Descriptor}
 use Rattle.event_core.specs.declared.boot.Boot.{Boot}
 use Rattle.event_core.specs.Table.{Bits}
 use Rattle.guest_base.specs.declared.memory.HostRun.{HostRun}
 use Rattle.event_core.specs.Map.{is_unaccepted, descriptor_end, IsDescriptor, AreApart, MapRules}
-use Rattle.event_core.specs.Stub.{default_unit, round_down, round_up, is_short, holds_unit, piece, early_of, unaccepted, stub_base, stub_bit, least_start, EarlyPieces}
+use Rattle.event_core.specs.Stub.{default_unit, round_down, round_up, is_short, holds_unit, piece, early_of, unaccepted, stub_base, stub_bit, least_start}
 use Rattle.event_core.specs.Given.{EarlyBy}
 use Rattle.event_core.specs.Units.{bit_of, unit_count, unit_first, unit_pages}
 use Rattle.event_core.specs.Boot.{BootRight}

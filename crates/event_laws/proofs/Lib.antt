@@ -7,3 +7,4 @@ pub mod EarlyLemmas
 pub mod UnitFacts
 pub mod WaitFacts
 pub mod TableFacts
+pub mod ComingFacts

@@ -1,10 +1,9 @@
 -- Where the calls lie that accept runs of units.
-use Rattle.std.proofs.Common.{◌≡◌, ℕ, zero, suc, ◌+◌, ◌-◌, ◌*◌, ◌/◌, ◌%◌, ◌^◌, ◌<◌, ◌≤◌, min, max, Bool, true, false, ◌&&◌, Option, None, Some, List, [], ◌∷◌, ◌++◌, refl, sym, ◌∙◌, ap, subst, inl, inr, arith, nat_lt, cond, ◌==◌, eqb-true}
+use Rattle.std.proofs.Common.{◌≡◌, ℕ, zero, suc, ◌+◌, ◌-◌, ◌*◌, ◌/◌, ◌%◌, ◌<◌, ◌≤◌, min, max, Bool, true, false, ◌&&◌, Option, None, Some, List, [], ◌∷◌, refl, sym, ◌∙◌, ap, subst, inl, inr, arith, nat_lt, ◌==◌, eqb-true}
 use Rattle.std.specs.List.{AllByRecursion}
 use Rattle.std.proofs.lemmas.Bool.{cases_Bool, cases_lt}
 use Rattle.std.proofs.lemmas.Bool.Decides.{nat_tests}
 use Rattle.std.proofs.Math.Nat.{mul-le-mul_right, le-div_iff_mul-le, div-mul-le_self}
-use Rattle.guest_base.specs.Ranges.{in_range}
 use Rattle.guest_base.specs.Levels.{level_pages}
 use Rattle.guest_base.specs.Search.{first_such, row_length}
 use Rattle.guest_base.proofs.RangeLemmas.{in_range-elim}
@@ -15,14 +14,13 @@ use Rattle.guest_base.specs.declared.memory.Level.TheVariants.{Small, Large, Hug
 use Rattle.guest_base.specs.declared.memory.Units.{Units}
 use Rattle.guest_base.specs.declared.memory.HostRun.{HostRun}
 use Rattle.event_core.specs.declared.boot.Boot.{Boot}
-use Rattle.event_core.specs.declared.module_call.CallKind.{CallKind}
 use Rattle.event_core.specs.declared.module_call.CallKind.TheVariants.{Accept}
 use Rattle.event_core.specs.declared.module_call.ModuleCall.{ModuleCall}
-use Rattle.event_core.specs.Acceptance.{fits, levels_below, greatest_fitting, goes_on_at, tried_at, AcceptanceSteps}
+use Rattle.event_core.specs.Acceptance.{fits, levels_below, goes_on_at, tried_at, AcceptanceSteps}
 use Rattle.event_core.specs.Boot.{AcceptsRun, AcceptsRange, InTurn, runs_from, set_runs}
 use Rattle.event_core.specs.Calls.{covers}
 use Rattle.event_core.specs.MemoryRows.{pending_in, pages_first, pages_count}
-use Rattle.event_core.specs.Units.{unit_count, unit_first, unit_pages, units_between, with_guard, guarded, guarded_units, first_run, run_at, units_end, bit_after}
+use Rattle.event_core.specs.Units.{unit_first, unit_pages, units_between, with_guard, guarded, guarded_units, first_run, run_at, units_end, bit_after}
 use Rattle.event_core.proofs.StepsLemmas.{fits-set, greatest_fitting-fits, steps-covers}
 use Rattle.event_laws.proofs.TurnLemmas.{in-turn-each, all-map}
 

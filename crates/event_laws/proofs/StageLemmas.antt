@@ -1,9 +1,9 @@
-use Rattle.std.proofs.Common.{◌≡◌, ℕ, Option, None, Some, List, [], ◌∷◌, ◌++◌, map, refl, sym, ◌∙◌, ap, inl, inr, append_assoc}
+use Rattle.std.proofs.Common.{◌≡◌, Option, None, Some, List, [], ◌∷◌, ◌++◌, map, refl, sym, ◌∙◌, ap, append_assoc}
 use Rattle.std.specs.List.{AllByRecursion}
 use Rattle.guest_base.specs.declared.memory.Pages.{Pages}
 use Rattle.guest_base.specs.declared.memory.Block.{Block}
 use Rattle.event_core.specs.declared.boot.Boot.{Boot}
-use Rattle.event_core.specs.Boot.{Stage, Early, PoolAccepted, PoolShared, BlockAccepted, pool_stages, stages_of}
+use Rattle.event_core.specs.Boot.{Stage, Early, BlockAccepted, pool_stages, stages_of}
 use Rattle.event_core.specs.Cut.{cut}
 use Rattle.event_laws.proofs.TurnLemmas.{all-append}
 

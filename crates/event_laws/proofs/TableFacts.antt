@@ -1,5 +1,5 @@
 -- What a table of unaccepted units that fits a map leaves pending.
-use Rattle.std.proofs.Common.{◌≡◌, ℕ, ◌+◌, ◌-◌, ◌*◌, ◌/◌, ◌^◌, ◌<◌, ◌≤◌, Bool, true, false, ◌&&◌, Option, None, Some, List, refl, sym, ◌∙◌, ap, inl, inr, arith, cond, nat_lt, nat_le}
+use Rattle.std.proofs.Common.{◌≡◌, ℕ, ◌+◌, ◌-◌, ◌*◌, ◌/◌, ◌<◌, ◌≤◌, Bool, true, false, ◌&&◌, None, Some, List, refl, sym, ◌∙◌, ap, inl, inr, arith, cond, nat_lt, nat_le}
 use Rattle.std.specs.Prelude.{not}
 use Rattle.std.proofs.lemmas.Bool.{cases_Bool}
 use Rattle.std.proofs.lemmas.Bool.Decides.{nat_tests}
@@ -14,8 +14,8 @@ use Rattle.event_core.specs.Map.{unaccepted_page, ram_page}
 use Rattle.event_core.specs.MemoryRows.{is_pending}
 use Rattle.event_core.specs.Table.{Bits, FitsTable, marks_page, is_unaccepted_unit, bad_unit}
 use Rattle.event_core.specs.Units.{bit_of, unit_count}
-use Rattle.event_laws.specs.Coming.{page_of_unit}
-use Rattle.event_laws.proofs.PlaceLemmas.{UnitFits, unit-some}
+use Rattle.event_laws.specs.Marked.{page_of_unit}
+use Rattle.event_laws.proofs.PlaceLemmas.{unit-some}
 use Rattle.event_laws.proofs.UnitFacts.{table-fits}
 
 both : (b c : Bool) → (b && c) ≡ true → (b ≡ true) × (c ≡ true)

@@ -1,13 +1,11 @@
-use Rattle.std.proofs.Common.{◌≡◌, ℕ, ◌+◌, ◌-◌, ◌*◌, ◌/◌, ◌%◌, ◌^◌, ◌<◌, ◌≤◌, Bool, true, false, Option, None, Some, List, refl, sym, ◌∙◌, ap, subst, arith, ◌==◌, eqb-true}
+use Rattle.std.proofs.Common.{◌≡◌, ℕ, ◌+◌, ◌-◌, ◌*◌, ◌/◌, ◌^◌, ◌<◌, ◌≤◌, Option, None, Some, List, refl, sym, ◌∙◌, ap, subst, arith, ◌==◌, eqb-true}
 use Rattle.std.proofs.lemmas.Nat.{pow-add, pow_pos}
 use Rattle.std.proofs.Math.Nat.{le-mul_of_pos_right}
 use Rattle.guest_base.proofs.SearchLemmas.{any_such-true}
 use Rattle.event_core.specs.declared.boot.Descriptor.{Descriptor}
-use Rattle.event_core.specs.declared.boot.Boot.{Boot}
 use Rattle.event_core.specs.Given.{FitsGiven, unit_by, base_by}
 use Rattle.event_core.specs.Stub.{least_start, unaccepted}
-use Rattle.event_core.specs.Table.{Bits, IsTable, is_unit}
-use Rattle.event_laws.specs.Coming.{BootMade}
+use Rattle.event_core.specs.Table.{Bits, IsTable}
 use Rattle.event_laws.proofs.PlaceLemmas.{UnitFits}
 
 -- The units of a boot fit into blocks of order 10.

@@ -1,5 +1,5 @@
 -- Which blocks wait at boot, by the calls before them.
-use Rattle.std.proofs.Common.{◌≡◌, ℕ, ◌+◌, ◌-◌, ◌*◌, ◌/◌, ◌%◌, ◌^◌, ◌<◌, ◌≤◌, max, Bool, true, false, ◌&&◌, Option, None, Some, List, [], ◌∷◌, ◌++◌, map, refl, sym, ◌∙◌, ap, subst, inl, inr, arith, ◌==◌, eqb-true, eq-eqb, nat_lt, append_assoc, append-nil}
+use Rattle.std.proofs.Common.{◌≡◌, ℕ, ◌+◌, ◌-◌, ◌*◌, ◌/◌, ◌%◌, ◌^◌, ◌<◌, ◌≤◌, max, Bool, true, false, ◌&&◌, Option, None, Some, List, [], ◌∷◌, ◌++◌, map, refl, sym, ◌∙◌, ap, subst, inl, inr, arith, ◌==◌, eq-eqb, nat_lt, append_assoc, append-nil}
 use Rattle.std.specs.Prelude.{◌⊎◌, fold}
 use Rattle.std.specs.List.{AllByRecursion}
 use Rattle.std.specs.Option.{option_map_or}
@@ -9,7 +9,7 @@ use mathlib.Core.Path.{fun_ext}
 use Rattle.guest_base.specs.Ranges.{in_range}
 use Rattle.guest_base.specs.Search.{any_such}
 use Rattle.guest_base.proofs.RangeLemmas.{in_range-intro}
-use Rattle.guest_base.proofs.SearchLemmas.{SameSuch, any_such_same}
+use Rattle.guest_base.proofs.SearchLemmas.{any_such_same}
 use Rattle.guest_base.specs.declared.memory.Page.{Page}
 use Rattle.guest_base.specs.declared.memory.Pages.{Pages}
 use Rattle.guest_base.specs.declared.memory.Units.{Units}
@@ -21,8 +21,8 @@ use Rattle.event_core.specs.declared.module_call.ModuleCall.{ModuleCall}
 use Rattle.event_core.specs.Blocks.{up_to_share, behind_share, calls_below, calls_before, block_units, waits_at_boot}
 use Rattle.event_core.specs.Boot.{InTurn, StagePart, Stage, Early, PoolAccepted, PoolShared, BlockAccepted, AcceptsPiece, AcceptsRange, pending_piece, pool_stages, share_call}
 use Rattle.event_core.specs.Calls.{covers}
-use Rattle.event_core.specs.Units.{bit_of, bit_after, unit_count, unit_first, unit_pages, units_end, mark_step, is_marked, guarded_units}
-use Rattle.event_laws.specs.Coming.{BootMade, ComesTo, waits_after}
+use Rattle.event_core.specs.Units.{bit_of, bit_after, unit_count, unit_first, unit_pages, units_end, mark_step, is_marked}
+use Rattle.event_laws.specs.Coming.{ComesTo, waits_after}
 use Rattle.event_laws.proofs.TurnLemmas.{all-append, all-map, in-turn-each, turn-split}
 use Rattle.event_laws.proofs.StageLemmas.{stages-split}
 use Rattle.event_laws.proofs.RiseLemmas.{RiseTo, cut-rises, rise-split, rise-below, rise-above}

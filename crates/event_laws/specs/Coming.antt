@@ -1,6 +1,5 @@
-use Rattle.std.specs.Prelude.{ℕ, List, [], ◌∷◌, ◌++◌, Option, None, Bool, false, ◌≡◌, ◌+◌, ◌*◌, ◌/◌}
+use Rattle.std.specs.Prelude.{ℕ, List, [], ◌∷◌, ◌++◌, Option, None, Bool, false, ◌≡◌}
 use Rattle.std.specs.Option.{option_map_or}
-use Rattle.guest_base.specs.Ranges.{in_range}
 use Rattle.guest_base.specs.Search.{any_such}
 use Rattle.guest_base.specs.declared.memory.Pages.{Pages}
 use Rattle.guest_base.specs.declared.memory.Units.{Units}
@@ -16,7 +15,9 @@ use Rattle.event_core.specs.Units.{bit_after}
 use Rattle.event_core.specs.Blocks.{block_units}
 use Rattle.event_core.specs.Boot.{BootRight, InTurn, StagePart, Stage, BlockAccepted, stages_of}
 
--- The map from which boot was made, with what was asked for (own rule).
+-- When boot comes to a block, and whether the block waits by the calls that are done then.
+
+-- the map from which a boot was made, with what was asked for (own rule)
 pub record BootMade (boot : Boot) : Type 0 where
   pub descriptors : List Descriptor
   pub hosts : List HostRun
@@ -28,8 +29,8 @@ pub record BootMade (boot : Boot) : Type 0 where
   pub fits : FitsGiven descriptors table
   pub right : BootRight descriptors hosts table slots areas cpus boot
 
--- Boot comes to a block with these calls done: the block's stage stands behind stages whose parts made them, and the parts of its
--- own stage and of the later ones make the calls that are left (own rule, after the stages of boot).
+-- Boot comes to a block with calls done: the parts of the stages before the block's make them, and the parts of its own stage and of
+-- the later ones make the calls that are left (own rule, after the stages of boot).
 pub record ComesTo (boot : Boot) (block : Block) (done : List ModuleCall) : Type 0 where
   pub made : BootMade boot
   pub pieces : List Pages
@@ -42,10 +43,6 @@ pub record ComesTo (boot : Boot) (block : Block) (done : List ModuleCall) : Type
   pub did : InTurn (StagePart boot) [] before done None
   pub does : InTurn (StagePart boot) done (BlockAccepted block ∷ later) rest None
 
--- a bit of the block's guarded units is set after calls
+-- a bit of the block's guarded units is set after calls (after Linux's range_contains_unaccepted_memory)
 abbrev pub waits_after : Boot → List ModuleCall → Block → Bool
 waits_after boot done block = option_map_or (λ (units : Units). any_such (bit_after boot done) units.first units.count) (block_units boot block) false
-
--- whether a page lies in a unit of a table
-abbrev pub page_of_unit : Bits → ℕ → ℕ → Bool
-page_of_unit table unit page = in_range (table.base / 4096 + unit * (table.unit / 4096)) (table.unit / 4096) page

@@ -6,7 +6,7 @@ ghost use Rattle.event_core.specs.Table.{Bits, FitsTable, marks_page};
 ghost use Rattle.event_core.specs.Given.{first_by};
 ghost use Rattle.event_core.specs.Units.{bit_of};
 ghost use Rattle.event_core.specs.MemoryRows.{is_pending};
-ghost use Rattle.event_laws.specs.Coming.{page_of_unit};
+ghost use Rattle.event_laws.specs.Marked.{page_of_unit};
 
 /// Each page of a unit whose bit is set in a table that fits the map is pending at first.
 pub fn set_unit_is_pending()
