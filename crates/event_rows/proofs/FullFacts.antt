@@ -1,6 +1,5 @@
-use Rattle.std.proofs.Common.{◌≡◌, ◌≢◌, ℕ, zero, suc, ◌+◌, ◌*◌, ◌%◌, Option, None, Some, Bool, true, false, not, ◌&&◌, List, [], ◌∷◌, refl, sym, ◌∙◌, ap, subst, arith}
-use Rattle.std.specs.Prelude.{slice_get, codes, take, drop, nat_le}
-use Rattle.std.proofs.lemmas.Bool.{cases_Bool}
+use Rattle.std.proofs.Common.{◌≡◌, ◌≢◌, ℕ, zero, suc, ◌+◌, ◌*◌, ◌%◌, Option, None, Some, Bool, true, false, not, ◌&&◌, List, [], ◌∷◌, refl, ap, subst, arith}
+use Rattle.std.specs.Prelude.{slice_get, codes, take, nat_le}
 use Rattle.std.proofs.lemmas.Bool.Decides.{nat_tests}
 use Rattle.guest_base.specs.Search.{first_such, each_such, any_such, count_such, row_length}
 use Rattle.guest_base.specs.Blocks.{lowest_free}
@@ -17,7 +16,6 @@ use Rattle.event_core.specs.MemoryRows.{pending_in, some_unaccepted}
 use Rattle.event_core.specs.BlockRows.{alloc_event}
 use Rattle.event_core.specs.ConvertRows.{aim_of, is_shared_block, convert_end, pending_in_block}
 use Rattle.event_core.specs.OwnRows.{found_at}
-use Rattle.event_core.specs.Legal.{with_moved, Follows}
 use Rattle.event_core.specs.declared.entry.Entry.{Entry}
 use Rattle.guest_base.specs.Slots.{fits_at, meets_align}
 use Rattle.guest_base.specs.Requests.{request_of}
@@ -35,7 +33,7 @@ use Rattle.event_core.specs.declared.reply.Reply.TheVariants.{Full}
 use Rattle.event_core.specs.Bytes.{zeros}
 use Rattle.event_core.specs.Holdings.{Own, Holding, PrivateBlock, block_named}
 use Rattle.event_core.specs.Moved.{Moved, entries_of}
-use Rattle.event_core.specs.Before.{own_before, place_before, StandsAt}
+use Rattle.event_core.specs.Before.{own_before, place_before}
 use Rattle.event_core.specs.FullOnlyWhereFull.{FullOnlyWhereFull, LookedEverywhere, NothingFits}
 use Rattle.event_rows.proofs.SplitLemmas.{AtEach, each-entry}
 use Rattle.event_rows.proofs.RowLemmas.{OfSome, of_some}

@@ -6,7 +6,7 @@ use Rattle.event_core.specs.Units.{guarded, bit_after, first_run, units_cleared}
 use Rattle.event_core.specs.Acceptance.{fits}
 use Rattle.event_core.specs.Claims.{claim_of, in_the_way}
 use Rattle.event_core.specs.Own.{own_of, script_of}
-use Rattle.event_core.specs.Pool.{live_runs, hint_of, run_found, is_used}
+use Rattle.event_core.specs.Pool.{live_runs, hint_of, run_found}
 use Rattle.event_core.specs.PoolBytes.{pool_byte, bytes_moved}
 use Rattle.event_core.specs.Absent.{is_absent}
 use Rattle.event_core.specs.Cut.{cut, blocks_from, order_at}
@@ -15,7 +15,6 @@ use Rattle.event_core.specs.MemoryRows.{pending_in, some_unaccepted}
 use Rattle.event_core.specs.BlockRows.{alloc_event}
 use Rattle.event_core.specs.ConvertRows.{aim_of, is_shared_block, convert_end, pending_in_block}
 use Rattle.event_core.specs.OwnRows.{found_at}
-use Rattle.event_core.specs.Legal.{with_moved, Follows}
 use Rattle.event_core.specs.declared.entry.Entry.{Entry}
 use Rattle.event_core.specs.declared.boot.Boot.{Boot}
 use Rattle.event_core.specs.declared.command.Command.{Command}

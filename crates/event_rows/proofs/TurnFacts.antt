@@ -6,8 +6,8 @@ use Rattle.guest_base.specs.Blocks.{lowest_free}
 use Rattle.event_core.specs.Units.{guarded, bit_after, first_run, units_cleared}
 use Rattle.event_core.specs.Acceptance.{fits}
 use Rattle.event_core.specs.Claims.{claim_of, in_the_way}
-use Rattle.event_core.specs.Own.{own_of, script_of}
-use Rattle.event_core.specs.Pool.{live_runs, hint_of, run_found, is_used}
+use Rattle.event_core.specs.Own.{own_of}
+use Rattle.event_core.specs.Pool.{live_runs, hint_of, run_found}
 use Rattle.event_core.specs.PoolBytes.{pool_byte, bytes_moved}
 use Rattle.event_core.specs.Absent.{is_absent}
 use Rattle.event_core.specs.Cut.{cut, blocks_from, order_at}

@@ -34,14 +34,15 @@ pub use booted::{boot_is_stopped, pool_guest_is_booted, small_guest_is_booted};
 pub use bounces::{block_bounced_is_whole, block_miscopied_is_not, device_misread_is_not};
 pub use conversions::{block_converted_is_whole, bytes_kept_is_not, half_block_found_is_not};
 pub use giving::{
-    bits_left_is_not, given_block_is_not_owned, given_block_is_whole, giveback_ends_by_its_call,
-    giveback_is_admitted, giveback_is_refused,
+    bits_left_is_not, giveback_ends_by_its_call, giveback_is_admitted, giveback_is_refused,
+    given_block_is_not_owned, given_block_is_whole,
 };
 pub use meanwhile::{
     claim_goes_by_its_bits, given_meanwhile_is_whole, given_meanwhile_taken_is_not,
 };
 pub use processors::{
-    both_accept_is_printed, both_accept_is_whole, claim_too_early_is_not, first_miscounted_is_not, second_miscounted_is_not,
+    both_accept_is_printed, both_accept_is_whole, claim_too_early_is_not, first_miscounted_is_not,
+    second_miscounted_is_not,
 };
 pub use small_units::{
     guard_is_one_page, small_unit_accepted_is_whole, small_unit_miscounted_is_not,
