@@ -1,4 +1,4 @@
-use Rattle.std.proofs.Common.{◌≡◌, ◌≢◌, ℕ, Option, None, Some, Bool, true, false, not, ◌&&◌, List, [], ◌∷◌, ◌++◌, refl, sym, ◌∙◌, ap, inl, inr, cond, if◌then◌else◌}
+use Rattle.std.proofs.Common.{◌≡◌, ◌≢◌, ℕ, Option, None, Some, Bool, true, false, not, ◌&&◌, List, [], ◌∷◌, ◌++◌, refl, sym, ◌∙◌, ap, inl, inr, if◌then◌else◌}
 use Rattle.std.specs.Option.{option_map}
 use Rattle.guest_base.specs.Search.{first_such, each_such, any_such, count_such, row_length}
 use Rattle.event_core.specs.Units.{guarded, bit_after, first_run, units_cleared}
@@ -23,7 +23,6 @@ use Rattle.event_core.specs.declared.event.Event.{Event}
 use Rattle.event_core.specs.declared.event.Event.TheVariants as event
 use Rattle.guest_base.specs.Ranges.{in_range}
 use Rattle.guest_base.specs.Blocks.{pick, lowest_free}
-use Rattle.guest_base.specs.declared.memory.Block.{Block}
 use Rattle.guest_base.proofs.BlockFacts.{pick_same}
 use Rattle.event_core.specs.declared.module_call.PortAnswer.TheVariants as answer
 use Rattle.event_core.specs.declared.event.ConvertEnd.TheVariants as end

@@ -5,6 +5,7 @@ pub mod BounceFacts
 pub mod ConversionFacts
 pub mod Evaluated
 pub mod FreeLemmas
+pub mod FullFacts
 pub mod GivingFacts
 pub mod MeanwhileFacts
 pub mod OnePageFacts
@@ -15,6 +16,8 @@ pub mod RowLemmas
 pub mod SmallUnitFacts
 pub mod SplitLemmas
 pub mod StrayFacts
+pub mod ToldFacts
 pub mod TouchFacts
+pub mod TurnFacts
 pub mod TwoFacts
 pub mod WaitingFacts

@@ -1,4 +1,4 @@
-use Rattle.std.proofs.Common.{◌≡◌, ◌≢◌, ℕ, Option, None, Some, Bool, true, false, not, ◌&&◌, List, [], ◌∷◌, ◌++◌, refl, sym, ◌∙◌, ap, inl, inr, cond, if◌then◌else◌}
+use Rattle.std.proofs.Common.{◌≡◌, ◌≢◌, ℕ, Option, None, Some, true, false, not, ◌&&◌, [], ◌∷◌, refl, sym, ◌∙◌, ap, inr, cond}
 use Rattle.std.specs.Option.{option_map}
 use Rattle.guest_base.specs.Search.{first_such, each_such, any_such, count_such, row_length}
 use Rattle.event_core.specs.Units.{guarded, bit_after, first_run, units_cleared}
@@ -12,17 +12,13 @@ use Rattle.event_core.specs.Cut.{cut, blocks_from, order_at}
 use Rattle.event_core.specs.MemoryRows.{pending_in, some_unaccepted}
 use Rattle.event_core.specs.ConvertRows.{aim_of, is_shared_block, convert_end, pending_in_block}
 use Rattle.event_core.specs.OwnRows.{found_at}
-use Rattle.event_core.specs.Legal.{Whole, with_moved, at_place}
-use Rattle.event_core.specs.Moved.{entries_of}
-use Rattle.event_core.specs.declared.entry.Place.TheVariants.{Memory}
+use Rattle.event_core.specs.Legal.{Whole}
 use Rattle.event_core.specs.Blocks.{waits_at_boot, block_state, lowest_waiting, in_flight_with, is_owned, free_page, is_loose}
 use Rattle.event_core.specs.BlockRows.{alloc_event, with_pick}
 use Rattle.event_core.specs.Next.{Step, alloc_reply}
-use Rattle.event_core.specs.declared.entry.Entry.{Entry}
 use Rattle.event_core.specs.declared.event.Event.{Event}
 use Rattle.guest_base.specs.Ranges.{in_range}
 use Rattle.guest_base.specs.Blocks.{pick, lowest_free}
-use Rattle.guest_base.specs.declared.memory.Block.{Block}
 use Rattle.guest_base.proofs.BlockFacts.{pick_same}
 use Rattle.event_core.specs.declared.event.Event.TheVariants as event
 use Rattle.guest_base.specs.declared.memory.Units.{Units}

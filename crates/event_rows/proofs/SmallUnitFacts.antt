@@ -11,18 +11,8 @@ use Rattle.event_core.specs.Cut.{cut, blocks_from, order_at}
 use Rattle.event_core.specs.MemoryRows.{pending_in, some_unaccepted}
 use Rattle.event_core.specs.ConvertRows.{aim_of, is_shared_block, convert_end, pending_in_block}
 use Rattle.event_core.specs.OwnRows.{found_at}
-use Rattle.event_core.specs.Legal.{Whole, with_moved, at_place}
-use Rattle.event_core.specs.Moved.{entries_of}
-use Rattle.event_core.specs.declared.entry.Place.TheVariants.{Memory}
-use Rattle.event_core.specs.Blocks.{waits_at_boot, block_state, lowest_waiting, in_flight_with, is_owned, free_page, is_loose}
-use Rattle.event_core.specs.BlockRows.{alloc_event, with_pick}
-use Rattle.event_core.specs.Next.{Step, alloc_reply}
-use Rattle.event_core.specs.declared.entry.Entry.{Entry}
-use Rattle.event_core.specs.declared.event.Event.{Event}
-use Rattle.guest_base.specs.Ranges.{in_range}
-use Rattle.guest_base.specs.Blocks.{pick, lowest_free}
-use Rattle.guest_base.specs.declared.memory.Block.{Block}
-use Rattle.guest_base.proofs.BlockFacts.{pick_same}
+use Rattle.event_core.specs.Legal.{Whole}
+use Rattle.event_core.specs.Blocks.{waits_at_boot, block_state, lowest_waiting, in_flight_with, is_owned, free_page}
 use Rattle.guest_base.specs.declared.memory.PageState.TheVariants.{Pending, Accepted}
 use Rattle.event_core.specs.Given.{first_by}
 use Rattle.event_core.specs.Units.{guarded_units}

@@ -1,4 +1,4 @@
-use Rattle.std.specs.Prelude.{ℕ, List, [], ◌∷◌, ◌++◌, Bool, false, ◌^◌, Option, None, Some, codes}
+use Rattle.std.specs.Prelude.{List, [], ◌∷◌, ◌++◌, Bool, false, ◌^◌, Option, None, Some, codes}
 use Rattle.guest_base.specs.declared.memory.Block.{Block}
 use Rattle.guest_base.specs.declared.memory.Units.{Units}
 use Rattle.guest_base.specs.declared.memory.Level.TheVariants.{Small, Large}
