@@ -16,6 +16,7 @@ pub mod RowLemmas
 pub mod SmallUnitFacts
 pub mod SplitLemmas
 pub mod StrayFacts
+pub mod TableFacts
 pub mod ToldFacts
 pub mod TouchFacts
 pub mod TurnFacts

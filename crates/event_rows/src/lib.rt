@@ -14,6 +14,7 @@ mod processors;
 mod small_units;
 mod steps;
 mod straying;
+mod tables;
 mod told;
 mod touches;
 mod turns;
@@ -51,6 +52,10 @@ pub use small_units::{
 pub use steps::blocked_whatever_is_answered;
 pub use straying::{
     accepted_page_is_there, given_page_found_is_not, given_page_is_absent, given_page_is_whole,
+};
+pub use tables::{
+    giving_guest_is_booted, meanwhile_guest_is_booted, small_table_fits,
+    small_unit_guest_is_booted, unit_outside_is_bad,
 };
 pub use told::{
     block_bytes_are_told, bounced_bytes_are_told, other_bytes_are_not_told,
