@@ -8,6 +8,7 @@ pub mod FreeLemmas
 pub mod FullFacts
 pub mod GivingFacts
 pub mod MeanwhileFacts
+pub mod OnceFacts
 pub mod OnePageFacts
 pub mod PickLemmas
 pub mod PoolBootFacts

@@ -36,7 +36,8 @@ pub use bounces::{block_bounced_is_whole, block_miscopied_is_not, device_misread
 pub use conversions::{block_converted_is_whole, bytes_kept_is_not, half_block_found_is_not};
 pub use giving::{
     bits_left_is_not, giveback_ends_by_its_call, giveback_is_admitted, giveback_is_refused,
-    given_block_is_not_owned, given_block_is_whole,
+    given_block_is_accepted_once, given_block_is_not_owned, given_block_is_whole,
+    given_twice_is_not_sound,
 };
 pub use meanwhile::{
     claim_goes_by_its_bits, given_meanwhile_is_whole, given_meanwhile_taken_is_not,
