@@ -60,6 +60,6 @@ pub fn given_block_is_accepted_once()
 {}
 
 /// A block isn't given back twice: the second call doesn't find its pages accepted.
-pub fn given_twice_is_not_sound()
+pub fn given_twice_is_not()
     ensures { SoundCalls (state_in giving_guest.ram) (give_call given_block answer.Ok ∷ give_call given_block answer.Ok ∷ []) → ⊥ }
 {}
