@@ -1,0 +1,44 @@
+//! The numbers among the options.
+ghost use Rattle.std.specs.Prelude.{◌≡◌, IfSome, true};
+ghost use Rattle.guest_words.specs.Words.{slots_of, areas_of, areas_in, is_areas};
+ghost use Rattle.guest_words.specs.Steps.{listed};
+
+use guest_base::limits::MAX_SLOTS;
+use guest_script::read_number;
+
+/// The slots where no word tells them.
+const USUAL_SLOTS: u32 = 32_768;
+
+/// The slots of the pool, 0 to 131,072. None where the value is no such number.
+pub(crate) fn read_slots(value: Option<&str>) -> Option<u32>
+    ensures { result ≡ slots_of (listed value.entry) }
+{
+    let Some(value) = value else {
+        return Some(USUAL_SLOTS);
+    };
+    let slots = read_number(value.as_bytes())?;
+    if slots <= u64::from(MAX_SLOTS) {
+        Some(slots as u32)
+    } else {
+        None
+    }
+}
+
+/// The areas of the pool of a run with one script. None where the value is no power of two from 1 to 64.
+pub(crate) fn read_areas(value: Option<&str>) -> Option<u32>
+    ensures { result ≡ areas_of 1 (listed value.entry) }
+{
+    match value {
+        None => Some(1),
+        Some(value) => areas_in(read_number(value.as_bytes())?),
+    }
+}
+
+fn areas_in(count: u64) -> Option<u32>
+    ensures { result ≡ areas_in (Some count) }
+{
+    match count {
+        1 | 2 | 4 | 8 | 16 | 32 | 64 => Some(count as u32),
+        _ => None,
+    }
+}
