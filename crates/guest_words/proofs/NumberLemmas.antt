@@ -7,8 +7,8 @@ use Rattle.guest_words.specs.Words.{is_areas, areas_of}
 any_step : (test : ℕ → Bool) (from count : ℕ) → any_such test from (suc count) ≡ (test from || any_such test (from + 1) count)
 any_step test from count =
     elim (cases_Bool (test from)) [
-      inl h ↦ any_such-pass test from count h ∙ sym (ap (λ b. b || any_such test (from + 1) count) h)
-    | inr h ↦ any_such-fail test from count h ∙ sym (ap (λ b. b || any_such test (from + 1) count) h)
+      | inl h ↦ any_such-pass test from count h ∙ sym (ap (λ b. b || any_such test (from + 1) count) h)
+      | inr h ↦ any_such-fail test from count h ∙ sym (ap (λ b. b || any_such test (from + 1) count) h)
     ]
 
 -- the powers of two from 1 to 64
