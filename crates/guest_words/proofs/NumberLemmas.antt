@@ -1,4 +1,4 @@
-use Rattle.std.proofs.Common.{ℕ, suc, ◌+◌, ◌≡◌, ◌≤◌, ◌<◌, ◌^◌, ◌==◌, ◌||◌, Bool, true, false, refl, sym, ◌∙◌, ap, arith, List, [], ◌∷◌, Some, None, Option, inl, inr, nat_le, unwrap_or}
+use Rattle.std.proofs.Common.{ℕ, suc, ◌+◌, ◌≡◌, ◌≤◌, ◌^◌, ◌==◌, ◌||◌, Bool, true, false, refl, sym, ◌∙◌, ap, arith, [], Some, inl, inr, nat_le, unwrap_or}
 use Rattle.std.proofs.lemmas.Bool.{cases_Bool}
 use Rattle.guest_base.specs.Search.{any_such}
 use Rattle.guest_base.proofs.SearchLemmas.{any_such-pass, any_such-fail, any_such-zero, first_such-pass}

@@ -1,4 +1,4 @@
-use Rattle.std.proofs.Common.{ℕ, ◌≡◌, ◌==◌, Bool, true, false, refl, sym, ◌∙◌, ap, arith, List, [], ◌∷◌, ◌++◌, length, nat_le, Some, None, Option, inl, inr, ◌&&◌, ◌+◌, ◌<◌, ◌≤◌, drop, if◌then◌else◌, String, string_bytes}
+use Rattle.std.proofs.Common.{ℕ, ◌≡◌, ◌==◌, Bool, true, false, refl, sym, ◌∙◌, ap, List, [], ◌∷◌, ◌++◌, length, nat_le, Some, None, Option, inl, inr, ◌&&◌, ◌+◌, ◌<◌, ◌≤◌, drop, if◌then◌else◌, String, string_bytes}
 use Rattle.std.specs.Option.{option_map}
 use Rattle.std.specs.declared.alloc.Global.{Global}
 use Rattle.std.proofs.Math.ListN.{get_or, drop_of_length-le}
@@ -7,7 +7,7 @@ use Rattle.std.proofs.lemmas.List.{append-nil, append_assoc, at_drop_more}
 use Rattle.guest_words.specs.declared.place.Place.{Place}
 use Rattle.guest_words.specs.declared.place.Place.TheVariants.{Open, Value, Ended}
 use Rattle.guest_words.specs.declared.told.SoFar.{SoFar}
-use Rattle.guest_words.specs.Words.{Told, Named, nothing, joined, told_by, part_of, slots_of, areas_of, table_of, files_of, turns_of, turns_by, bytes_of_words, end_at, ◌>>=◌}
+use Rattle.guest_words.specs.Words.{Told, Named, nothing, joined, told_by, part_of, slots_of, areas_of, table_of, files_of, turns_of, turns_by, bytes_of_words, ◌>>=◌}
 use Rattle.guest_words.specs.Steps.{told, standing, is_small, told_after, next_of, names_of}
 
 -- what is named by words of which the first part has told something, and the rest stands at a place
