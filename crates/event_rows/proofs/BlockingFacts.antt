@@ -4,7 +4,7 @@ use Rattle.std.specs.Option.{option_and_then}
 use Rattle.guest_base.specs.declared.memory.Block.{Block}
 use Rattle.guest_base.specs.declared.memory.Units.{Units}
 use Rattle.guest_base.specs.declared.memory.PageState.{PageState}
-use Rattle.guest_base.specs.declared.memory.PageState.TheVariants.{Accepted, Shared}
+use Rattle.guest_base.specs.declared.memory.PageState.TheVariants.{Pending, Accepted, Shared}
 use Rattle.event_core.specs.declared.boot.Boot.{Boot}
 use Rattle.event_core.specs.declared.command.Command.{Command}
 use Rattle.event_core.specs.declared.command.Command.TheVariants as command
@@ -42,6 +42,7 @@ unrefused boot cpu own there (command.Accept start len) calls = accepting boot (
 unrefused boot cpu own there (command.Alloc name order) calls = allocating boot (entries_of there) (claim_of boot (entries_of there) cpu) order calls
 unrefused boot cpu own there (command.Share name) calls = converting boot (entries_of there) own.converting (block_named own name) Shared calls
 unrefused boot cpu own there (command.Private name) calls = converting boot (entries_of there) own.converting (block_named own name) Accepted calls
+unrefused boot cpu own there (command.Giveback name) calls = converting boot (entries_of there) own.converting (block_named own name) Pending calls
 unrefused boot cpu own there _ calls = refl
 
 refused : (refusal : Option Reply) (a b : Option Step) → is_none a ≡ is_none b → is_none (refused_or refusal a) ≡ is_none (refused_or refusal b)

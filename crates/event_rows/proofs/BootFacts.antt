@@ -57,7 +57,7 @@ no-pieces : EarlyPieces small_map []
 no-pieces = record { sorted = record { kind = 15; start = 4194304; pages = 2048 } ∷ []; same = IsPermutation-refl _; rise = tt; made = refl }
 
 -- three blocks of order 10, which wait or are accepted by the map
-no-calls : BootCalls small_map small_guest [] None
+no-calls : BootCalls small_map None small_guest [] None
 unfolding cut blocks_from order_at
 no-calls = record {
   pieces = [];
@@ -65,7 +65,7 @@ no-calls = record {
   stages = inr ([], [], refl, (refl, refl), inr ([], [], refl, (refl, refl), inr ([], [], refl, (refl, refl), (refl, refl))));
 }
 
-pub small_guest-booted : BootRight small_map [] 0 1 1 small_guest
+pub small_guest-booted : BootRight small_map [] None 0 1 1 small_guest
 small_guest-booted = record {
   ram = record { each = each-state; some = some-pages; rise = runs-rise };
   same_hosts = refl;

@@ -50,7 +50,7 @@ no-pieces : EarlyPieces pool_map []
 no-pieces = record { sorted = []; same = IsPermutation-refl _; rise = tt; made = refl }
 
 -- the pool is shared, and nothing is accepted
-pool-calls : BootCalls pool_map pool_guest pool_guest.calls None
+pool-calls : BootCalls pool_map None pool_guest pool_guest.calls None
 unfolding cut blocks_from order_at guarded bit_after first_run first_such
 pool-calls = record {
   pieces = [];
@@ -58,7 +58,7 @@ pool-calls = record {
   stages = inr ([], pool_guest.calls, refl, (refl, refl), inr (pool_guest.calls, [], refl, refl, inr ([], [], refl, (refl, refl), (refl, refl))));
 }
 
-pub pool_guest-booted : BootRight pool_map [] 128 1 1 pool_guest
+pub pool_guest-booted : BootRight pool_map [] None 128 1 1 pool_guest
 unfolding first_such
 pool_guest-booted = record {
   ram = record { each = each-state; some = some-pages; rise = runs-rise };
@@ -78,7 +78,7 @@ no-small_pieces : EarlyPieces small_pages_map []
 no-small_pieces = record { sorted = small_pages_map; same = IsPermutation-refl _; rise = tt; made = refl }
 
 -- the pool's first unit is begun by its greatest fitting size, and stops at its second page
-pub boot-stopped : BootCalls small_pages_map stopped_guest stopped_calls (Some (record { 0 = 1025 }))
+pub boot-stopped : BootCalls small_pages_map None stopped_guest stopped_calls (Some (record { 0 = 1025 }))
 unfolding cut blocks_from order_at guarded bit_after first_run first_such each_such any_such row_length fits pending_in
 boot-stopped = record {
   pieces = [];

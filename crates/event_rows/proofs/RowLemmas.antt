@@ -1,4 +1,4 @@
-use Rattle.std.proofs.Common.{◌≡◌, ℕ, zero, suc, ◌<◌, Bool, true, false, ◌&&◌, Option, None, Some, List, [], ◌∷◌, ◌++◌, refl, ◌∙◌, ap, inl, arith, length}
+use Rattle.std.proofs.Common.{◌≡◌, ℕ, zero, suc, ◌<◌, Bool, true, false, ◌&&◌, Option, None, Some, List, [], ◌∷◌, ◌++◌, refl, ◌∙◌, ap, inl, arith, length, subst}
 use Rattle.std.specs.Prelude.{All, slice_get, nat_lt}
 use Rattle.std.specs.List.{list_all}
 use Rattle.std.proofs.lemmas.Bool.Decides.{nat_tests}
@@ -72,3 +72,11 @@ count_in _ = 0
 
 pub some-same : {A : Type 0} (a b : A) → Some a ≡ Some b → a ≡ b
 some-same a b h = cc
+
+-- where there is a value this holds of it
+abbrev pub OfSome : {A : Type 0} → (A → Type 0) → Option A → Type 0
+OfSome P None = Unit {0}
+OfSome P (Some a) = P a
+
+pub of_some : {A : Type 0} (P : A → Type 0) (held : Option A) (a : A) → OfSome P held → held ≡ Some a → P a
+of_some P held a p h = subst (OfSome P) h p

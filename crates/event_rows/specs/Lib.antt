@@ -2,8 +2,13 @@ pub mod Accepts
 pub mod BootMaps
 pub mod Bounces
 pub mod Conversions
+pub mod GivenMeanwhile
+pub mod Giving
 pub mod OnePage
 pub mod SmallMap
+pub mod SmallUnits
+pub mod Straying
+pub mod Tables
 pub mod Touched
 pub mod TwoAreas
 pub mod TwoProcessors

@@ -50,3 +50,15 @@ area_history last =
     ∷ looked 5 3 0 None None
     ∷ looked 6 3 1 None last
     ∷ []
+
+-- the second mapping is answered full after its look in the first area alone
+abbrev pub early_full : List Entry
+early_full =
+    entry_at 1 0 place.Memory (event.Got area_block) (Some (reply.Addr 524288))
+    ∷ looked 2 1 0 (Some (long_run 0)) (Some (reply.Addr 0))
+    ∷ looked 3 2 0 None (Some reply.Full)
+    ∷ []
+
+-- the first mapping finds nothing in an area that nothing is in
+abbrev pub missed_run : List Entry
+missed_run = entry_at 1 0 place.Memory (event.Got area_block) (Some (reply.Addr 524288)) ∷ looked 2 1 0 None None ∷ []

@@ -1,4 +1,6 @@
-use Rattle.std.specs.Prelude.{ℕ, List, [], ◌∷◌, Option, None, Some}
+use Rattle.std.specs.Prelude.{ℕ, List, [], ◌∷◌, Option, None, Some, codes}
+use Rattle.std.specs.List.{flat_map}
+use Rattle.event_core.specs.Texts.{line}
 use Rattle.guest_base.specs.declared.memory.Units.{Units}
 use Rattle.event_core.specs.declared.boot.Boot.{Boot}
 use Rattle.event_core.specs.declared.command.Command.{Command}
@@ -43,3 +45,9 @@ both_accept first second = first_claims 1 ∷ first_reports 2 first ∷ second_c
 -- the second processor claims before the first has reported
 abbrev pub second_early : Option Units → ℕ → List Entry
 second_early run second = first_claims 1 ∷ second_claims 2 run second ∷ first_reports 3 2 ∷ []
+
+-- the text that is printed of the history with its order: the two counts, the pages of 8 MiB and of the 4 MiB behind them, and the
+-- processor of each of the three entries
+abbrev pub pair_text : List ℕ
+pair_text =
+    flat_map line (codes "cpu 0" ∷ codes "1 ok 2" ∷ codes "cpu 1" ∷ codes "1 ok 0" ∷ codes "pages" ∷ codes "0x0-0x800000 accepted" ∷ codes "0x800000-0xc00000 pending" ∷ codes "order" ∷ codes "0" ∷ codes "0" ∷ codes "1" ∷ codes "end" ∷ [])

@@ -74,6 +74,7 @@ memory_command memory.Accept words = two_numbers words >>= λ a. Ok (command.Acc
 memory_command memory.Query words = two_numbers words >>= λ a. Ok (command.Query a.0 a.1)
 memory_command memory.Share words = one_name words >>= λ name. Ok (command.Share name)
 memory_command memory.Private words = one_name words >>= λ name. Ok (command.Private name)
+memory_command memory.Giveback words = one_name words >>= λ name. Ok (command.Giveback name)
 
 -- the commands of a block's bytes
 unfoldable pub block_command : BlockVerb → List (List ℕ) → Result Command Why

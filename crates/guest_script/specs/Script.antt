@@ -2,7 +2,7 @@ use Rattle.std.specs.Prelude.{◌≡◌, ℕ, ◌+◌, ◌==◌, Bool, false, Li
 use Rattle.std.specs.List.{slice_split}
 use Rattle.std.specs.Str.{is_utf8}
 use Rattle.event_core.specs.declared.command.Command.{Command}
-use Rattle.event_core.specs.declared.command.Command.TheVariants as command
+use Rattle.event_core.specs.ReadableScript.{bytes_named}
 use Rattle.guest_script.specs.declared.fault.Why.{Why}
 use Rattle.guest_script.specs.declared.fault.Why.TheVariants as why
 use Rattle.guest_script.specs.declared.fault.ScriptFault.{ScriptFault}
@@ -25,27 +25,6 @@ line_words line =
     else if is_utf8 line then Ok (if is_comment (words_of line) then [] else words_of line)
     else Err why.NotUtf8
 
--- the bytes that a command names: its LEN, or the bytes of its HEX; accept and query name none
-abbrev pub named_bytes : Command → ℕ
-named_bytes (command.Alloc name order) = 0
-named_bytes (command.Free name) = 0
-named_bytes (command.Accept start len) = 0
-named_bytes (command.Query start len) = 0
-named_bytes (command.Read name off len) = len
-named_bytes (command.Write name off hex) = length hex
-named_bytes (command.Fill name off len byte) = len
-named_bytes (command.Load name off) = 0
-named_bytes (command.Share name) = 0
-named_bytes (command.Private name) = 0
-named_bytes (command.Map mapping name off len direction mask) = len
-named_bytes (command.SyncDev mapping off len) = len
-named_bytes (command.SyncCpu mapping off len) = len
-named_bytes (command.Unmap mapping skip) = 0
-named_bytes (command.DRead mapping off len) = len
-named_bytes (command.DWrite mapping off hex) = length hex
-named_bytes (command.HostRead off len) = len
-named_bytes (command.HostWrite off hex) = length hex
-
 -- a fault of a line, with the line's number
 abbrev pub at_line : {A : Type 0} → ℕ → Result A Why → Result A ScriptFault
 at_line number (Ok x) = Ok x
@@ -58,7 +37,7 @@ followed_by (Err e) next = Err e
 
 -- the script with one more command, whose bytes may name 4,194,304 together with those before it
 abbrev pub with_command : List Command → Command → Result (List Command) ScriptFault
-with_command script command = if nat_lt 4194304 (sum_by named_bytes script + named_bytes command) then Err fault.TooManyBytes else Ok (script ++ command ∷ [])
+with_command script command = if nat_lt 4194304 (sum_by bytes_named script + bytes_named command) then Err fault.TooManyBytes else Ok (script ++ command ∷ [])
 
 -- the script with the command of a line's words; a line without words is skipped, and there are at most 2,048 commands
 unfoldable pub with_words : ℕ → List Command → List (List ℕ) → Result (List Command) ScriptFault

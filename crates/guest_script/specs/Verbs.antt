@@ -18,7 +18,8 @@ beside word (entry ∷ entries) = if bytes_eq word entry.0 then Some entry.1 els
 abbrev pub memory_words : List (List ℕ × MemoryVerb)
 memory_words =
     (codes "alloc", memory.Alloc) ∷ (codes "free", memory.Free) ∷ (codes "accept", memory.Accept) ∷ (codes "query", memory.Query)
-    ∷ (codes "share", memory.Share) ∷ (codes "private", memory.Private) ∷ []
+    ∷ (codes "share", memory.Share) ∷ (codes "private", memory.Private)
+    ∷ (codes "giveback", memory.Giveback) ∷ []
 
 -- those of the commands of a block's bytes
 abbrev pub block_words : List (List ℕ × BlockVerb)

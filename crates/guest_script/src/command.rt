@@ -59,6 +59,10 @@ fn memory_command(verb: MemoryVerb, words: &[&[u8]]) -> Result<Command, Why>
             let name = one_name(words)?;
             Ok(Command::Private { name })
         }
+        MemoryVerb::Giveback => {
+            let name = one_name(words)?;
+            Ok(Command::Giveback { name })
+        }
     }
 }
 

@@ -37,6 +37,8 @@ pub fn print_reply(alloc: Global, reply: &Reply) -> Result<Bytes, AllocError>
         Reply::Zero => bytes_of(alloc, b"zero"),
         Reply::Full => bytes_of(alloc, b"full"),
         Reply::NoPool => bytes_of(alloc, b"nopool"),
+        Reply::Small => bytes_of(alloc, b"small"),
+        Reply::NoUnit => bytes_of(alloc, b"nounit"),
         Reply::Module => bytes_of(alloc, b"module"),
     }
 }

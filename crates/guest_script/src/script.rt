@@ -1,9 +1,10 @@
 //! Scripts.
-ghost use Rattle.std.specs.Prelude.{◌≡◌, ◌+◌, ◌≤◌, ◌∷◌, length, sum_by, MatchResult, OnOk, IfErr, Err};
+ghost use Rattle.std.specs.Prelude.{◌≡◌, ◌+◌, ◌≤◌, ◌∷◌, length, sum_by, MatchResult, IfOk, OnOk, IfErr, Err};
 ghost use Rattle.std.specs.Str.{is_utf8};
+ghost use Rattle.event_core.specs.ReadableScript.{bytes_named, ReadableScript};
 ghost use Rattle.guest_script.specs.Words.{texts};
 ghost use Rattle.guest_script.specs.Answers.{LineFails};
-ghost use Rattle.guest_script.specs.Script.{is_comment, line_words, named_bytes, with_words, with_line, script_of, ScriptFails, ScriptGives, fault_at};
+ghost use Rattle.guest_script.specs.Script.{is_comment, line_words, with_words, with_line, script_of, ScriptFails, ScriptGives, fault_at};
 
 use crate::command::read_command;
 use crate::fault::{LineFault, ScriptFault, Why};
@@ -16,8 +17,10 @@ use std::alloc::Global;
 
 /// Reads a script. Lines are ended by line feeds, words parted by spaces and tabs, and a line without words
 /// or whose first word begins with `#` is skipped. The fault is the first one in the order of the lines.
+/// A script has at most 2,048 commands, which name at most 4,194,304 bytes together.
 pub fn read_script(alloc: Global, bytes: &[u8]) -> Result<Script, ScriptFault>
-    ensures { ScriptGives result (script_of bytes.now) }
+    ensures script { ScriptGives result (script_of bytes.now) }
+    ensures readable { IfOk result (λ script. ReadableScript script) }
 {
     let mut commands = Vec::new(alloc);
     let mut named = 0;
@@ -40,10 +43,10 @@ fn read_line(
     commands: &mut Vec<Command>,
     named: &mut u64,
 ) -> Result<(), ScriptFault>
-    requires sum { named.old ≡ sum_by named_bytes commands.old.items }
+    requires sum { named.old ≡ sum_by bytes_named commands.old.items }
     requires few { named.old ≤ 4194304 }
     ensures ok { OnOk result (with_line number commands.old.items line.now ≡ Ok commands.new.items) }
-    ensures sum { OnOk result (named.new ≡ sum_by named_bytes commands.new.items) }
+    ensures sum { OnOk result (named.new ≡ sum_by bytes_named commands.new.items) }
     ensures few { OnOk result (named.new ≤ 4194304) }
     ensures err { IfErr result (λ fault. ScriptFails fault (with_line number commands.old.items line.now)) }
 {
@@ -93,10 +96,10 @@ fn add_command(
     commands: &mut Vec<Command>,
     named: &mut u64,
 ) -> Result<(), ScriptFault>
-    requires sum { named.old ≡ sum_by named_bytes commands.old.items }
+    requires sum { named.old ≡ sum_by bytes_named commands.old.items }
     requires few { named.old ≤ 4194304 }
     ensures ok { OnOk result (with_words number commands.old.items (texts words.now) ≡ Ok commands.new.items) }
-    ensures sum { OnOk result (named.new ≡ sum_by named_bytes commands.new.items) }
+    ensures sum { OnOk result (named.new ≡ sum_by bytes_named commands.new.items) }
     ensures few { OnOk result (named.new ≤ 4194304) }
     ensures err { IfErr result (λ fault. ScriptFails fault (with_words number commands.old.items (texts words.now))) }
 {
@@ -110,7 +113,7 @@ fn add_command(
         Ok(command) => command,
         Err(fault) => return Err(fault_at(number, fault)),
     };
-    let bytes = named_bytes(&command);
+    let bytes = bytes_named(&command);
     if bytes > MAX_NAMED_BYTES - *named {
         return Err(ScriptFault::TooManyBytes);
     }
@@ -129,8 +132,8 @@ fn fault_at(number: u64, fault: LineFault) -> ScriptFault
 }
 
 /// The bytes that a command names: its length, or the bytes of its digits.
-fn named_bytes(command: &Command) -> u64
-    ensures { result ≡ named_bytes command.now }
+fn bytes_named(command: &Command) -> u64
+    ensures { result ≡ bytes_named command.now }
 {
     match command {
         Command::Read { len, .. }
@@ -149,6 +152,7 @@ fn named_bytes(command: &Command) -> u64
         | Command::Load { .. }
         | Command::Share { .. }
         | Command::Private { .. }
+        | Command::Giveback { .. }
         | Command::Unmap { .. } => 0,
     }
 }

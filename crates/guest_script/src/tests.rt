@@ -27,6 +27,15 @@ fn accept_and_query(rt: HostRuntime) -> Result<(), Fail> {
 }
 
 #[test]
+fn giveback(rt: HostRuntime) -> Result<(), Fail> {
+    let script = read_script(rt.alloc(), b"giveback b")?;
+    assert!(rt;
+        matches!(script.as_slice(), [Command::Giveback { name }] if name.as_bytes() == b"b".as_slice())
+    );
+    Ok(())
+}
+
+#[test]
 fn replies(rt: HostRuntime) -> Result<(), Fail> {
     let alloc = rt.alloc();
     assert_eq!(rt;
@@ -40,6 +49,14 @@ fn replies(rt: HostRuntime) -> Result<(), Fail> {
     assert_eq!(rt;
         print_reply(alloc, &Reply::Count(1024))?.as_slice(),
         b"ok 1024".as_slice()
+    );
+    assert_eq!(rt;
+        print_reply(alloc, &Reply::Small)?.as_slice(),
+        b"small".as_slice()
+    );
+    assert_eq!(rt;
+        print_reply(alloc, &Reply::NoUnit)?.as_slice(),
+        b"nounit".as_slice()
     );
     let bytes = Items::from_vec(vec![in alloc; 1, 170, 0]?);
     assert_eq!(rt;
@@ -99,6 +116,9 @@ fn a_script(rt: HostRuntime) -> Result<(), Fail> {
 fn first_faults(rt: HostRuntime) {
     for (text, fault) in [
         (b"#\nalloc a\n".as_slice(), ScriptFault::Line(2, Why::Arity)),
+        (b"giveback".as_slice(), ScriptFault::Line(1, Why::Arity)),
+        (b"giveback a b".as_slice(), ScriptFault::Line(1, Why::Arity)),
+        (b"giveback a-b".as_slice(), ScriptFault::Line(1, Why::Word)),
         (b"aloc a".as_slice(), ScriptFault::Line(1, Why::Word)),
         (b"alloc a-b 11".as_slice(), ScriptFault::Line(1, Why::Word)),
         (b"alloc a 11".as_slice(), ScriptFault::Line(1, Why::Number)),

@@ -19,6 +19,7 @@ pub(crate) enum MemoryVerb {
     Query,
     Share,
     Private,
+    Giveback,
 }
 
 /// The commands of a block's bytes.
@@ -75,6 +76,8 @@ fn memory_verb(word: &[u8]) -> Option<MemoryVerb>
         Some(MemoryVerb::Share)
     } else if word == b"private".as_slice() {
         Some(MemoryVerb::Private)
+    } else if word == b"giveback".as_slice() {
+        Some(MemoryVerb::Giveback)
     } else {
         None
     }

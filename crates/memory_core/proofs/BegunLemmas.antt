@@ -1,8 +1,9 @@
-use Rattle.std.proofs.Common.{◌≡◌, ℕ, ◌+◌, ◌^◌, ◌<◌, Option, None, Some, List, [], ◌∷◌, ◌++◌, refl, sym, ◌∙◌, ap, subst, max, length}
+use Rattle.std.proofs.Common.{◌≡◌, ℕ, ◌+◌, ◌^◌, ◌<◌, ◌≤◌, Option, None, Some, List, [], ◌∷◌, ◌++◌, refl, sym, ◌∙◌, ap, subst, max, length}
 use Rattle.std.specs.Prelude.{slice_set, map}
 use Rattle.std.specs.Option.{ForSome, option_and_then}
 use Rattle.guest_base.specs.Search.{count_such}
 use Rattle.guest_base.proofs.SearchLemmas.{count_such_same}
+use Rattle.guest_base.specs.declared.memory.Pages.{Pages}
 use Rattle.guest_base.specs.declared.memory.Units.{Units}
 use Rattle.event_core.specs.declared.boot.Boot.{Boot}
 use Rattle.event_core.specs.declared.entry.Entry.{Entry}
@@ -11,7 +12,7 @@ use Rattle.event_core.specs.declared.event.Event.{Event}
 use Rattle.event_core.specs.declared.event.Event.TheVariants.{Claim}
 use Rattle.event_core.specs.declared.module_call.ModuleCall.{ModuleCall}
 use Rattle.event_core.specs.Calls.{calls_of}
-use Rattle.event_core.specs.MemoryRows.{page_state, run_of_claim}
+use Rattle.event_core.specs.MemoryRows.{page_state, pages_first, pages_count, run_of_claim}
 use Rattle.event_core.specs.Units.{bit_after, guarded_units, first_run}
 use Rattle.page_module.specs.Spans.{Taken}
 use Rattle.event_core.specs.Table.{Bits}
@@ -110,9 +111,10 @@ others-kept boot entries entries' claims claims' room room' cpu k calls is = rec
 }
 
 -- what is out with the processor is the span of the run
-pub out-for : (boot : Boot) (entries : List Entry) (claims claims' : List (Option OpenClaim)) (room cpu : ℕ) (run : Units) (span : Taken) (o : OpenClaim) (calls : List ModuleCall) → cpu < length claims → claims' ≡ slice_set claims cpu (Some o) → o.ticket ≡ span.ticket → calls_of boot entries ≡ calls → HasStates boot calls run span → IsOutFor (seen boot entries claims' room) cpu run span
-out-for boot entries claims claims' room cpu run span o calls inside is ticket calls_are has = record {
+pub out-for : (boot : Boot) (entries : List Entry) (claims claims' : List (Option OpenClaim)) (room cpu : ℕ) (run : Units) (span : Taken) (o : OpenClaim) (calls : List ModuleCall) → cpu < length claims → claims' ≡ slice_set claims cpu (Some o) → o.ticket ≡ span.ticket → calls_of boot entries ≡ calls → HasStates boot calls run span → pages_first boot run + pages_count boot run ≤ 2 ^ 28 → IsOutFor (seen boot entries claims' room) cpu run span
+out-for boot entries claims claims' room cpu run span o calls inside is ticket calls_are has low = record {
   room = o.room;
   handed = handed-is claims' cpu ∙ ap (λ cs. handed_for (kept_by cs cpu)) is ∙ ap handed_for (kept-same claims cpu (Some o) inside) ∙ ap (λ t. Some (let h : Handed = record { ticket = t; room = o.room } in h)) ticket;
   has = (let P : List ModuleCall → Type 0 = λ cs. HasStates boot cs run span in subst P (sym calls_are) has);
+  low = (let P : Pages → Type 0 = λ pages. pages.first + pages.count ≤ 2 ^ 28 in subst P (sym has.pages) low);
 }

@@ -106,6 +106,7 @@ pub holds-open : (boot : Boot) (calls : List ModuleCall) (claims claims' : ℕ �
 holds-open boot calls claims claims' runs runs' tickets tickets' bit kept kept' cpu o claim holds free others now_claim now_kept rest more opened clear clear' = record {
   bits = holds.bits;
   marks = holds.marks;
+  ram = holds.ram;
   states = λ page inside.
       let out = inside cpu claim now_claim in
       rest page ∙ ap (λ b. cond b None (state_in runs page)) out
@@ -163,7 +164,7 @@ one-run boot calls now run taken span runs runs' bit bit' each returns =
     }
 
 pub stands-virtual : (boot : Boot) (calls : List ModuleCall) (claims : ℕ → Option Claimed) (runs : List PageRun) (tickets : List Ticket) (bit : ℕ → Bool) (kept : ℕ → Option OpenClaim) → HoldsFor boot calls claims runs tickets bit kept → Stands boot calls (page_state boot calls) bit
-stands-virtual boot calls claims runs tickets bit kept holds = record { states = λ page. refl; bits = holds.bits; marks = holds.marks }
+stands-virtual boot calls claims runs tickets bit kept holds = record { states = λ page. refl; bits = holds.bits; marks = holds.marks; ram = holds.ram }
 
 -- units of another claim are none of the run's
 pub other-unit : (claim other : Claimed) (unit : ℕ) → claim.units.first ≤ claim.run.first → units_end claim.run ≤ units_end claim.units → units_meet other.units claim.units ≡ false → other.units.first ≤ unit → unit < units_end other.units → in_range claim.run.first claim.run.count unit ≡ false
@@ -183,6 +184,7 @@ holds-close boot calls now claims claims' runs runs' tickets tickets' bit bit' k
     record {
       bits = stands.bits;
       marks = stands.marks;
+      ram = stands.ram;
       states = λ page inside.
           returns.back page ∙ ap (λ (p : Pages). cond (in_range p.first p.count page) (state_in span.runs page) (state_in runs page)) first
           ∙ choose (in_range (pages_first boot claim.run) (pages_count boot claim.run) page) (state_in span.runs page) (state_in runs page) (page_state boot calls page)

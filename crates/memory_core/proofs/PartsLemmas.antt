@@ -1,11 +1,17 @@
-use Rattle.std.proofs.Common.{◌≡◌, ℕ, zero, suc, ◌+◌, ◌≤◌, Option, None, Some, List, [], ◌∷◌, ◌++◌, refl, sym, ◌∙◌, ap, subst, arith, length}
-use Rattle.std.specs.Prelude.{sum_by, slice_index_or, map, ◌/◌, Vec}
+use Rattle.std.proofs.Common.{◌≡◌, ◌≢◌, ℕ, zero, suc, ◌+◌, ◌*◌, ◌^◌, ◌<◌, ◌≤◌, Bool, true, false, ◌&&◌, Option, None, Some, List, [], ◌∷◌, ◌++◌, refl, sym, ◌∙◌, ap, subst, arith, cond, length, append-nil, eqb-true}
+use Rattle.std.specs.Prelude.{sum_by, slice_index_or, map, ◌/◌, ◌==◌, fold, nat_lt, Vec}
 use Rattle.std.specs.declared.alloc.Global.{Global}
+use Rattle.std.specs.List.{AllByRecursion}
 use Rattle.std.specs.Option.{option_map}
-use Rattle.std.proofs.Common.{append-nil}
+use Rattle.std.proofs.Math.Nat.{pow-le-pow_right}
+use Rattle.std.proofs.lemmas.List.{length_push}
 use Rattle.std.proofs.lemmas.List.Sums.{sum_by-cons}
+use Rattle.std.proofs.lemmas.Nat.{pow_pos}
+use Rattle.guest_base.specs.Search.{any_such}
 use Rattle.guest_base.specs.declared.memory.HostRun.{HostRun}
+use Rattle.guest_base.specs.declared.memory.PageState.TheVariants.{Pending}
 use Rattle.guest_base.specs.declared.memory.Units.{Units}
+use Rattle.guest_base.proofs.SearchLemmas.{any_such-true}
 use Rattle.event_core.specs.declared.boot.Boot.{Boot}
 use Rattle.event_core.specs.declared.boot.Descriptor.{Descriptor}
 use Rattle.event_core.specs.declared.entry.Entry.{Entry}
@@ -13,24 +19,25 @@ use Rattle.event_core.specs.declared.module_call.ModuleCall.{ModuleCall}
 use Rattle.event_core.specs.Boot.{BootRight}
 use Rattle.event_core.specs.Calls.{calls_of, SoundCalls}
 use Rattle.event_core.specs.Claims.{claim_of}
+use Rattle.event_core.specs.Given.{FitsGiven, unit_by}
 use Rattle.event_core.specs.Map.{MapRules}
 use Rattle.event_core.specs.MemoryRows.{page_state}
 use Rattle.event_core.specs.Runs.{state_in as first_state_of}
-use Rattle.event_core.specs.Units.{unit_pages}
-use Rattle.event_core.proofs.BootFacts.{set-pending, ram-low, boot-marks}
+use Rattle.event_core.specs.Table.{Bits, is_unit}
+use Rattle.event_core.specs.Units.{bit_of, bit_after, is_marked, unit_count, unit_first, unit_pages}
+use Rattle.event_core.proofs.BootFacts.{TakesNone, set-pending, ram-low, boot-marks, boot-takes-none}
 use Rattle.page_module.specs.States.{state_in}
 use Rattle.page_module.specs.Tables.{Table}
 use Rattle.page_module.specs.declared.ticket.Ticket.{Ticket}
-use Rattle.event_core.specs.Table.{Bits}
 use Rattle.accepting_ranges.specs.Claims.{range_of}
 use Rattle.memory_core.specs.Bitmaps.{bits_in, BitsAfter}
-use Rattle.memory_core.specs.Booted.{IsBooted}
+use Rattle.memory_core.specs.Booted.{IsBooted, UnitsAreRam}
 use Rattle.memory_core.specs.Steps.{last_stamp}
-use Rattle.std.proofs.lemmas.List.{length_push}
 use Rattle.memory_core.specs.StandsFor.{StandsFor, HoldsFor, kept_by, spans_of, reports_of, handed_for}
 use Rattle.memory_core.specs.declared.claims.OpenClaim.{OpenClaim}
 use Rattle.memory_core.proofs.HoldsLemmas.{stands-none}
 use Rattle.memory_core.proofs.OpenLemmas.{handed-is}
+use Rattle.memory_core.proofs.RunLemmas.{bit-less}
 
 sum-none : (f : Option OpenClaim → ℕ) (claims : List (Option OpenClaim)) → f None ≡ 0 → ((cpu : ℕ) → kept_by claims cpu ≡ None) → sum_by f claims ≡ 0
 sum-none f [] zero_at none = refl
@@ -77,36 +84,84 @@ no-claim : (boot : Boot) (entries : List Entry) → entries ≡ [] → (cpu : �
 unfolding claim_of
 no-claim boot entries is cpu = ap (λ es. claim_of boot es cpu) is
 
-pub booted : (map : List Descriptor) (hosts : List HostRun) (slots areas cpus : ℕ) (boot : Boot) → MapRules map hosts → BootRight map hosts slots areas cpus boot → boot.cpus ≤ 64 → IsBooted boot
-booted map hosts slots areas cpus boot rules right few =
-    let size : unit_pages boot ≡ 512 = ap (λ u. u / 4096) right.unit in
+second_of_two : (b c : Bool) → elim b as (λ _. Bool) [ true ↦ c | false ↦ false ] ≡ true → c ≡ true
+second_of_two true c h = h
+second_of_two false c h = cc
+
+-- a unit is a number of pages, 512 at most
+record IsSize (pages : ℕ) : Type 0 where
+  pub some : 0 < pages
+  pub small : pages ≤ 512
+
+size-of : (unit order : ℕ) → order < 10 → unit ≡ 4096 * 2 ^ order → IsSize (unit / 4096)
+size-of unit order low is =
+    let pages : unit / 4096 ≡ 2 ^ order = (let whole : 4096 * 2 ^ order / 4096 ≡ 2 ^ order = omega arith in ap (λ u. u / 4096) is ∙ whole) in
+    let some = pow_pos order in
+    let under : order ≤ 9 = omega (arith, low) in
+    let two : 0 < 2 = omega arith in
+    let few : 2 ^ order ≤ 2 ^ 9 = pow-le-pow_right {n = 2} two {i = order} {j = 9} under in
+    record { some = omega (arith, pages, some); small = omega (arith, pages, few) }
+
+table-size : (unit : ℕ) → is_unit unit ≡ true → IsSize (unit / 4096)
+table-size unit is =
+    let found = any_such-true (λ order. unit == 4096 * 2 ^ order) 0 10 is in
+    let high = found.1.high in
+    size-of unit found.0 (omega (arith, high)) (eqb-true unit (4096 * 2 ^ found.0) found.1.passes)
+
+unit-size : (map : List Descriptor) (table : Option Bits) → FitsGiven map table → IsSize (unit_by table / 4096)
+unit-size map None fits = record { some = omega arith; small = omega arith }
+unit-size map (Some table) fits = table-size table.unit fits.is_table.unit_is
+
+pub booted : (map : List Descriptor) (hosts : List HostRun) (table : Option Bits) (slots areas cpus : ℕ) (boot : Boot) → MapRules map hosts → FitsGiven map table → BootRight map hosts table slots areas cpus boot → boot.cpus ≤ 64 → IsBooted boot
+booted map hosts table slots areas cpus boot rules fits right few =
+    let size = subst (λ u. IsSize (u / 4096)) (sym right.unit) (unit-size map table fits) in
     record {
-      pending = set-pending map hosts slots areas cpus boot rules right;
-      low = ram-low map hosts slots areas cpus boot rules right;
-      some = omega (arith, size);
-      small = omega (arith, size);
+      pending = set-pending map hosts table slots areas cpus boot rules fits right;
+      low = ram-low map hosts table slots areas cpus boot rules right;
+      some = size.some;
+      small = size.small;
       cpus = few;
     }
 
+-- a bit that is set after boot's calls was set at first
+first-set : (boot : Boot) (unit : ℕ) → bit_after boot [] unit ≡ true → bit_of boot.bits unit ≡ true
+unfolding bit_after
+first-set boot unit h =
+    (any_such-true (λ page. bit_of boot.bits unit) (unit_first boot unit) (unit_pages boot) (second_of_two (nat_lt unit (unit_count boot.bits)) _ h)).1.passes
+
+pub boot-set : (boot : Boot) (calls : List ModuleCall) (unit : ℕ) → AllByRecursion TakesNone calls → bit_after boot calls unit ≡ true → bit_of boot.bits unit ≡ true
+boot-set boot calls unit none h = first-set boot unit (bit-less boot [] calls unit none h)
+
+-- so the pages of unaccepted units are RAM
+pub ram-first : (boot : Boot) (calls : List ModuleCall) → IsBooted boot → AllByRecursion TakesNone calls → UnitsAreRam boot calls
+ram-first boot calls begun none unit page set inside is =
+    let no : Some Pending ≡ None = sym (begun.pending unit page (boot-set boot calls unit none set) inside) ∙ is in
+    cc
+
 -- the memory of a boot
-pub new-stands : (descriptors : List Descriptor) (hosts : List HostRun) (slots areas cpus : ℕ) (boot value : Boot) (entries : Vec Entry Global) (table : Table) (bits : Option Bits) (ranges : List (Option Units)) (claims : List (Option OpenClaim))
-    → value ≡ boot → MapRules descriptors hosts → BootRight descriptors hosts slots areas cpus boot → SoundCalls (first_state_of boot.ram) boot.calls → boot.cpus ≤ 64
+pub new-stands : (descriptors : List Descriptor) (given : Option Bits) (hosts : List HostRun) (slots areas cpus : ℕ) (boot value : Boot) (entries : Vec Entry Global) (table : Table) (bits : Option Bits) (ranges : List (Option Units)) (claims : List (Option OpenClaim))
+    → value ≡ boot → MapRules descriptors hosts → FitsGiven descriptors given → BootRight descriptors hosts given slots areas cpus boot → SoundCalls (first_state_of boot.ram) boot.calls → boot.cpus ≤ 64
     → ((page : ℕ) → state_in table.runs page ≡ page_state boot boot.calls page) → table.out ≡ [] → BitsAfter boot boot.calls bits
     → ((cpu : ℕ) → range_of ranges cpu ≡ None) → NothingKept claims boot.cpus → entries.items ≡ []
     → StandsFor value entries 0 table bits ranges claims (boot.unit / 4096) 0 0
-new-stands descriptors hosts slots areas cpus boot value entries table bits ranges claims same rules right sound few states none_out after free kept none =
+new-stands descriptors given hosts slots areas cpus boot value entries table bits ranges claims same rules fits right sound few states none_out after free kept none =
     let calls : calls_of boot entries.items ≡ boot.calls = ap (calls_of boot) none ∙ append-nil boot.calls in
     let reports = sum-none reports_of claims refl kept.none in
     let long = ap (λ (es : List Entry). length es) none in
+    let begun = booted descriptors hosts given slots areas cpus boot rules fits right few in
+    let takes = boot-takes-none descriptors hosts given slots areas cpus boot right in
     let P : List ModuleCall → Type 0 = λ cs. HoldsFor boot cs (claim_of boot entries.items) table.runs table.out (bits_in bits) (kept_by claims) in
     let Q : Boot → Type 0 = λ b. StandsFor b entries 0 table bits ranges claims (boot.unit / 4096) 0 0 in
     subst Q (sym same)
     (record {
-      booted = booted descriptors hosts slots areas cpus boot rules right few;
+      booted = begun;
       holds = subst P (sym calls)
           (record {
             bits = after.set;
-            marks = boot-marks descriptors hosts slots areas cpus boot rules right sound;
+            marks = λ unit page set inside.
+                (let was = boot-set boot boot.calls unit takes set in
+                ap (λ b. is_marked b boot.calls page) was ∙ boot-marks descriptors hosts given slots areas cpus boot rules fits right sound unit page was inside);
+            ram = ram-first boot boot.calls begun takes;
             states = λ page inside. states page;
             open_claims = λ cpu. stands-none boot (bits_in bits) table.out (kept_by claims cpu) (claim_of boot entries.items cpu) (kept.none cpu) (no-claim boot entries.items none cpu);
             apart = λ c d a b differ is_a is_b. let no : None ≡ Some a = sym (no-claim boot entries.items none c) ∙ is_a in cc;

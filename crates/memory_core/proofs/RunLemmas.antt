@@ -1,5 +1,5 @@
 use Rattle.std.proofs.Common.{◌≡◌, ◌≢◌, ℕ, ◌+◌, ◌*◌, ◌/◌, ◌<◌, ◌≤◌, Bool, true, false, ◌&&◌, Option, None, Some, List, [], ◌∷◌, ◌++◌, refl, sym, ◌∙◌, ap, subst, inl, inr, arith, cond}
-use Rattle.std.specs.Prelude.{fold, if◌then◌else◌, not}
+use Rattle.std.specs.Prelude.{fold, nat_lt, if◌then◌else◌, not}
 use mathlib.Core.Path.{fun_ext}
 use Rattle.std.specs.List.{AllByRecursion}
 use Rattle.std.proofs.Math.Nat.{mul-le-mul_right}
@@ -7,29 +7,32 @@ use Rattle.std.proofs.lemmas.Bool.{cases_Bool, cases_lt}
 use Rattle.std.proofs.lemmas.List.Sums.{fold-append}
 use Rattle.guest_base.specs.Ranges.{in_range}
 use Rattle.guest_base.specs.Search.{any_such, count_such}
-use Rattle.guest_base.proofs.SearchLemmas.{any_such_same, count_such_same}
+use Rattle.guest_base.proofs.SearchLemmas.{any_such_same, any_such_is, any_such-true, count_such_same}
 use Rattle.guest_base.specs.declared.memory.Units.{Units}
 use Rattle.guest_base.specs.declared.memory.Level.{Level}
 use Rattle.guest_base.specs.declared.memory.HostRun.{HostRun}
 use Rattle.guest_base.specs.declared.memory.PageState.{PageState}
+use Rattle.guest_base.specs.declared.memory.PageState.TheVariants.{Pending, Accepted}
 use Rattle.event_core.specs.declared.boot.Boot.{Boot}
 use Rattle.event_core.specs.declared.module_call.CallKind.{CallKind}
-use Rattle.event_core.specs.declared.module_call.CallKind.TheVariants.{Accept, Share, Unshare}
+use Rattle.event_core.specs.declared.module_call.CallKind.TheVariants.{Accept, Share, Unshare, Give}
 use Rattle.event_core.specs.declared.module_call.ModuleCall.{ModuleCall}
 use Rattle.event_core.specs.Calls.{States, is_done, covers, after_call, state_after, state_made}
 use Rattle.event_core.specs.Runs.{state_in as state_by}
-use Rattle.event_core.specs.Units.{bit_of, bit_after, is_marked, mark_step, unit_first, unit_pages, units_cleared}
+use Rattle.event_core.specs.Units.{bit_of, bit_after, is_marked, mark_step, mark_made, unit_count, unit_first, unit_pages, units_cleared}
 use Rattle.event_core.specs.Acceptance.{AcceptanceSteps, goes_on_at, tried_at}
 use Rattle.event_core.specs.MemoryRows.{page_state, is_pending, pending_in, pages_first, pages_count, AcceptsUnits}
+use Rattle.event_core.proofs.BootFacts.{TakesNone}
 use Rattle.event_core.proofs.StepsLemmas.{steps-covers, steps-outside, not_both}
 use Rattle.event_core.proofs.SoundLemmas.{state_after-append}
-use Rattle.memory_core.specs.Booted.{MarksArePending}
+use Rattle.memory_core.specs.Booted.{MarksArePending, UnitsAreRam}
 
 -- states of all pages and bits of units that are those after module calls
 pub record Stands (boot : Boot) (calls : List ModuleCall) (table : ℕ → Option PageState) (set : ℕ → Bool) : Type 0 where
   pub states : (page : ℕ) → table page ≡ page_state boot calls page
   pub bits : (unit : ℕ) → set unit ≡ bit_after boot calls unit
   pub marks : MarksArePending boot calls
+  pub ram : UnitsAreRam boot calls
 
 abbrev pub IsAccept : ModuleCall → Type 0
 IsAccept call = call.kind ≡ Accept
@@ -39,19 +42,15 @@ pub steps-accept : (hosts : List HostRun) (set : ℕ → Bool) (end from : ℕ) 
 steps-accept hosts set end from tried [] steps = tt
 steps-accept hosts set end from tried (call ∷ calls) steps = (steps.2.kind, steps-accept hosts set end (goes_on_at call) (tried_at call) calls steps.4)
 
-mark_by : (page : ℕ) (call : ModuleCall) (marked : Bool) (kind : CallKind) → kind ≡ Accept → elim kind as (λ _. Bool) [ Accept ↦ cond (is_done call && covers call page) false marked | Share ↦ marked | Unshare ↦ marked ] ≡ cond (is_done call && covers call page) false marked
-mark_by page call marked Accept kind = refl
-mark_by page call marked Share kind = cc
-mark_by page call marked Unshare kind = cc
-
 mark-accept : (page : ℕ) (call : ModuleCall) (marked : Bool) → call.kind ≡ Accept → mark_step page marked call ≡ cond (is_done call && covers call page) false marked
-mark-accept page call marked kind = mark_by page call marked call.kind kind
+mark-accept page call marked kind = ap (λ k. cond (is_done call && covers call page) (mark_made k marked) marked) kind
+
+pending-accepted : (b : Bool) (s : Option PageState) → is_pending (cond b (Some (state_made Accept)) s) ≡ cond b false (is_pending s)
+pending-accepted true s = refl
+pending-accepted false s = refl
 
 pending-after : (b : Bool) (s : Option PageState) (kind : CallKind) → kind ≡ Accept → is_pending (cond b (Some (state_made kind)) s) ≡ cond b false (is_pending s)
-pending-after true s Accept is = refl
-pending-after false s kind is = refl
-pending-after true s Share is = cc
-pending-after true s Unshare is = cc
+pending-after b s kind is = ap (λ k. is_pending (cond b (Some (state_made k)) s)) is ∙ pending-accepted b s
 
 -- what is marked goes on to be what is pending
 marks-fold : (page : ℕ) (calls : List ModuleCall) (marked : Bool) (states : States) → marked ≡ is_pending (states page) → AllByRecursion IsAccept calls → fold (mark_step page) marked calls ≡ is_pending (state_after states calls page)
@@ -61,11 +60,63 @@ marks-fold page (call ∷ calls) marked states is all =
     (mark-accept page call marked all.0 ∙ ap (cond (is_done call && covers call page) false) is ∙ sym (pending-after (is_done call && covers call page) (states page) call.kind all.0))
     all.1
 
-pub marks-push : (boot : Boot) (calls now : List ModuleCall) → MarksArePending boot calls → AllByRecursion IsAccept now → MarksArePending boot (calls ++ now)
-marks-push boot calls now marks accept unit page set inside =
-    fold-append (mark_step page) true calls now
-    ∙ marks-fold page now (is_marked true calls page) (page_state boot calls) (marks unit page set inside) accept
+made-less : (kind : CallKind) (marked : Bool) → state_made kind ≢ Pending → mark_made kind marked ≡ true → marked ≡ true
+made-less Accept marked none h = cc
+made-less Share marked none h = h
+made-less Unshare marked none h = absurd (none refl)
+made-less Give marked none h = absurd (none refl)
+
+step-less : (b marked : Bool) (kind : CallKind) → state_made kind ≢ Pending → cond b (mark_made kind marked) marked ≡ true → marked ≡ true
+step-less true marked kind none h = made-less kind marked none h
+step-less false marked kind none h = h
+
+-- calls that make no page pending mark no page
+marks-less : (page : ℕ) (calls : List ModuleCall) (marked : Bool) → AllByRecursion TakesNone calls → fold (mark_step page) marked calls ≡ true → marked ≡ true
+marks-less page [] marked all h = h
+marks-less page (call ∷ calls) marked all h =
+    step-less (is_done call && covers call page) marked call.kind all.0 (marks-less page calls (mark_step page marked call) all.1 h)
+
+any-less : (test other : ℕ → Bool) (first count : ℕ) → ((n : ℕ) → test n ≡ true → other n ≡ true) → any_such test first count ≡ true → any_such other first count ≡ true
+any-less test other first count less h =
+    let found = any_such-true test first count h in
+    any_such_is other first count found.0 found.1.low found.1.high (less found.0 found.1.passes)
+
+first_of_two : (b c : Bool) → elim b as (λ _. Bool) [ true ↦ c | false ↦ false ] ≡ true → b ≡ true
+first_of_two true c h = refl
+first_of_two false c h = cc
+
+second_less : (b c d : Bool) → (c ≡ true → d ≡ true) → elim b as (λ _. Bool) [ true ↦ c | false ↦ false ] ≡ true → elim b as (λ _. Bool) [ true ↦ d | false ↦ false ] ≡ true
+second_less true c d less h = less h
+second_less false c d less h = h
+
+-- so they set no bit
+pub bit-less : (boot : Boot) (calls now : List ModuleCall) (unit : ℕ) → AllByRecursion TakesNone now → bit_after boot (calls ++ now) unit ≡ true → bit_after boot calls unit ≡ true
+unfolding bit_after
+bit-less boot calls now unit none h =
+    second_less (nat_lt unit (unit_count boot.bits)) _ _
+    (any-less (is_marked (bit_of boot.bits unit) (calls ++ now)) (is_marked (bit_of boot.bits unit) calls) (unit_first boot unit) (unit_pages boot)
+    (λ page set. marks-less page now (is_marked (bit_of boot.bits unit) calls page) none (sym (fold-append (mark_step page) (bit_of boot.bits unit) calls now) ∙ set)))
+    h
+
+pub accepts-none : (calls : List ModuleCall) → AllByRecursion IsAccept calls → AllByRecursion TakesNone calls
+accepts-none [] all = tt
+accepts-none (call ∷ calls) all = ((λ no. let bad : Accepted ≡ Pending = ap state_made (sym all.0) ∙ no in cc), accepts-none calls all.1)
+
+-- the pages of unaccepted units stay RAM
+pub ram-push : (boot : Boot) (calls now : List ModuleCall) → UnitsAreRam boot calls → AllByRecursion TakesNone now → UnitsAreRam boot (calls ++ now)
+ram-push boot calls now ram none unit page set inside = ram unit page (bit-less boot calls now unit none set) inside
+
+-- the pages of an unaccepted unit go on to be marked where they are pending
+mark-page : (boot : Boot) (calls now : List ModuleCall) → MarksArePending boot calls → AllByRecursion IsAccept now
+    → (unit page : ℕ) → bit_after boot calls unit ≡ true → in_range (unit_first boot unit) (unit_pages boot) page ≡ true
+    → is_marked (bit_of boot.bits unit) (calls ++ now) page ≡ is_pending (page_state boot (calls ++ now) page)
+mark-page boot calls now marks accept unit page set inside =
+    fold-append (mark_step page) (bit_of boot.bits unit) calls now
+    ∙ marks-fold page now (is_marked (bit_of boot.bits unit) calls page) (page_state boot calls) (marks unit page set inside) accept
     ∙ ap (λ (f : ℕ → Option PageState). is_pending (f page)) (sym (state_after-append (state_by boot.ram) calls now))
+
+pub marks-push : (boot : Boot) (calls now : List ModuleCall) → MarksArePending boot calls → AllByRecursion IsAccept now → MarksArePending boot (calls ++ now)
+marks-push boot calls now marks accept unit page set inside = mark-page boot calls now marks accept unit page (bit-less boot calls now unit (accepts-none now accept) set) inside
 
 -- calls that don't cover a page leave its mark
 marks-outside : (hosts : List HostRun) (set : ℕ → Bool) (end from : ℕ) (tried : Option Level) (calls : List ModuleCall) (marked : Bool) (page : ℕ) → set page ≡ false → AcceptanceSteps hosts set end from tried calls → fold (mark_step page) marked calls ≡ marked
@@ -134,31 +185,23 @@ when-set false x y h = refl
 pub bits-outside : (boot : Boot) (calls now : List ModuleCall) (run : Units) (unit : ℕ) → AcceptsUnits boot calls run now → in_range run.first run.count unit ≡ false → bit_after boot (calls ++ now) unit ≡ bit_after boot calls unit
 unfolding bit_after pending_in
 bits-outside boot calls now run unit steps out =
-    when-set (bit_of boot.bits unit) _ _ (λ set.
-    any_such_same (is_marked true (calls ++ now)) (is_marked true calls) (unit_first boot unit) (unit_pages boot) (record {
+    let first = bit_of boot.bits unit in
+    when-set (nat_lt unit (unit_count boot.bits)) _ _ (λ here.
+    any_such_same (is_marked first (calls ++ now)) (is_marked first calls) (unit_first boot unit) (unit_pages boot) (record {
       same = λ page low high.
           let apart = apart-pages boot run unit page out (in_range-intro (unit_first boot unit) (unit_pages boot) page low high) in
-          fold-append (mark_step page) true calls now
-          ∙ marks-outside boot.hosts _ _ _ None now (is_marked true calls page) page (ap (λ b. b && is_pending (page_state boot calls page)) apart) steps;
+          fold-append (mark_step page) first calls now
+          ∙ marks-outside boot.hosts _ _ _ None now (is_marked first calls page) page (ap (λ b. b && is_pending (page_state boot calls page)) apart) steps;
     }))
 
--- a bit of the run is set where a page of the unit is pending
-pub bits-inside : (boot : Boot) (calls : List ModuleCall) (unit : ℕ) → MarksArePending boot calls → bit_of boot.bits unit ≡ true → bit_after boot calls unit ≡ any_such (λ page. is_pending (page_state boot calls page)) (unit_first boot unit) (unit_pages boot)
+-- of a unit that was unaccepted the bit stays where a page of the unit is pending
+pub bits-inside : (boot : Boot) (calls now : List ModuleCall) (unit : ℕ) → MarksArePending boot calls → AllByRecursion IsAccept now → bit_after boot calls unit ≡ true → bit_after boot (calls ++ now) unit ≡ any_such (λ page. is_pending (page_state boot (calls ++ now) page)) (unit_first boot unit) (unit_pages boot)
 unfolding bit_after
-bits-inside boot calls unit marks set =
-    ap (λ b. elim b as (λ _. Bool) [ true ↦ any_such (is_marked true calls) (unit_first boot unit) (unit_pages boot) | false ↦ false ]) set
-    ∙ any_such_same (is_marked true calls) (λ page. is_pending (page_state boot calls page)) (unit_first boot unit) (unit_pages boot) (record {
-      same = λ page low high. marks unit page set (in_range-intro (unit_first boot unit) (unit_pages boot) page low high);
+bits-inside boot calls now unit marks accept set =
+    ap (λ b. elim b as (λ _. Bool) [ true ↦ any_such (is_marked (bit_of boot.bits unit) (calls ++ now)) (unit_first boot unit) (unit_pages boot) | false ↦ false ]) (first_of_two (nat_lt unit (unit_count boot.bits)) _ set)
+    ∙ any_such_same (is_marked (bit_of boot.bits unit) (calls ++ now)) (λ page. is_pending (page_state boot (calls ++ now) page)) (unit_first boot unit) (unit_pages boot) (record {
+      same = λ page low high. mark-page boot calls now marks accept unit page set (in_range-intro (unit_first boot unit) (unit_pages boot) page low high);
     })
-
-first_of_two : (b c : Bool) → elim b as (λ _. Bool) [ true ↦ c | false ↦ false ] ≡ true → b ≡ true
-first_of_two true c h = refl
-first_of_two false c h = cc
-
--- a bit that is set was set at first
-pub bit-was : (boot : Boot) (calls : List ModuleCall) (unit : ℕ) → bit_after boot calls unit ≡ true → bit_of boot.bits unit ≡ true
-unfolding bit_after
-bit-was boot calls unit h = first_of_two (bit_of boot.bits unit) _ h
 
 -- ---- the states after a run
 
@@ -219,16 +262,17 @@ run-page : (boot : Boot) (calls now : List ModuleCall) (run : Units) (table next
 run-page boot calls now run table next old new bits cleared stands one page t =
     sym (one.put page ∙ ap (λ b. cond b (new page) (table page)) t) ∙ run-states boot calls now run table next old new bits cleared stands one page
 
-run-bits : (boot : Boot) (calls now : List ModuleCall) (run : Units) (table next old new : ℕ → Option PageState) (bits cleared : ℕ → Bool) → Stands boot calls table bits → OneRun boot run now table next old new bits cleared → MarksArePending boot (calls ++ now) → (unit : ℕ) → cleared unit ≡ bit_after boot (calls ++ now) unit
-run-bits boot calls now run table next old new bits cleared stands one marks unit =
+run-bits : (boot : Boot) (calls now : List ModuleCall) (run : Units) (table next old new : ℕ → Option PageState) (bits cleared : ℕ → Bool) → Stands boot calls table bits → OneRun boot run now table next old new bits cleared → (unit : ℕ) → cleared unit ≡ bit_after boot (calls ++ now) unit
+run-bits boot calls now run table next old new bits cleared stands one unit =
     elim (cases_Bool (in_range run.first run.count unit)) [
       | inl t ↦
-          (let set : bit_of boot.bits unit ≡ true = bit-was boot calls unit (sym (stands.bits unit) ∙ one.set unit t) in
+          (let set : bit_after boot calls unit ≡ true = sym (stands.bits unit) ∙ one.set unit t in
+          let accepts = steps-accept boot.hosts _ _ _ None now one.steps in
           one.clears unit ∙ ap (λ b. cond b (any_such (λ page. is_pending (new page)) (unit_first boot unit) (unit_pages boot)) (bits unit)) t
           ∙ any_such_same (λ page. is_pending (new page)) (λ page. is_pending (page_state boot (calls ++ now) page)) (unit_first boot unit) (unit_pages boot) (record {
             same = λ page low high. ap is_pending (run-page boot calls now run table next old new bits cleared stands one page (within-pages boot run unit page t (in_range-intro (unit_first boot unit) (unit_pages boot) page low high)));
           })
-          ∙ sym (bits-inside boot (calls ++ now) unit marks set))
+          ∙ sym (bits-inside boot calls now unit stands.marks accepts set))
       | inr f ↦
           one.clears unit ∙ ap (λ b. cond b (any_such (λ page. is_pending (new page)) (unit_first boot unit) (unit_pages boot)) (bits unit)) f
           ∙ stands.bits unit ∙ sym (bits-outside boot calls now run unit (run-accepts boot calls now run table next old new bits cleared stands one) f)
@@ -238,11 +282,11 @@ run-bits boot calls now run table next old new bits cleared stands one marks uni
 pub run-stands : (boot : Boot) (calls now : List ModuleCall) (run : Units) (table next old new : ℕ → Option PageState) (bits cleared : ℕ → Bool) → Stands boot calls table bits → OneRun boot run now table next old new bits cleared → Stands boot (calls ++ now) next cleared
 run-stands boot calls now run table next old new bits cleared stands one =
     let accepts = steps-accept boot.hosts _ _ _ None now one.steps in
-    let marks = marks-push boot calls now stands.marks accepts in
     record {
       states = run-states boot calls now run table next old new bits cleared stands one;
-      bits = run-bits boot calls now run table next old new bits cleared stands one marks;
-      marks = marks;
+      bits = run-bits boot calls now run table next old new bits cleared stands one;
+      marks = marks-push boot calls now stands.marks accepts;
+      ram = ram-push boot calls now stands.ram (accepts-none now accepts);
     }
 
 if-not : (b : Bool) → (if b then false else true) ≡ not b

@@ -5,15 +5,14 @@ use Rattle.guest_base.specs.Ranges.{in_range}
 use Rattle.guest_base.specs.Search.{first_such, row_length, count_such}
 use Rattle.guest_base.proofs.SearchLemmas.{first_such-Some, first_such_same, row_length_same, row_length-pass_each, row_length-le, row_length-pass, count_such-append, count_such_all}
 use Rattle.guest_base.specs.declared.memory.Units.{Units}
-use Rattle.guest_base.specs.declared.memory.PageState.TheVariants.{Pending}
 use Rattle.event_core.specs.declared.boot.Boot.{Boot}
 use Rattle.event_core.specs.declared.module_call.ModuleCall.{ModuleCall}
 use Rattle.event_core.specs.Runs.{state_in as first_state_of}
 use Rattle.event_core.specs.Units.{bit_after, unit_first, unit_pages, units_end, first_run, run_at}
 use Rattle.event_core.specs.Claims.{units_meet}
 use Rattle.event_core.specs.MemoryRows.{page_state, pages_first, pages_count}
-use Rattle.memory_core.specs.Booted.{IsBooted}
-use Rattle.memory_core.proofs.RunLemmas.{apart-pages, bit-was, state_after-some}
+use Rattle.memory_core.specs.Booted.{IsBooted, UnitsAreRam}
+use Rattle.memory_core.proofs.RunLemmas.{apart-pages, state_after-some}
 
 pub in_range-elim : (first count n : ℕ) → in_range first count n ≡ true → (first ≤ n) × (n < first + count)
 in_range-elim first count n h = grind arith
@@ -68,28 +67,24 @@ runs-apart boot run other page apart inside =
     apart-pages boot other found.unit page (apart found.unit (in_range-intro run.first run.count found.unit found.low found.high))
     (in_range-intro (unit_first boot found.unit) (unit_pages boot) page found.begins found.ends)
 
--- a page of a run of unaccepted units was pending at first
-pub run-page-pending : (boot : Boot) (calls : List ModuleCall) (run : Units) → IsBooted boot → ((unit : ℕ) → in_range run.first run.count unit ≡ true → bit_after boot calls unit ≡ true) → (page : ℕ) → in_range (pages_first boot run) (pages_count boot run) page ≡ true → first_state_of boot.ram page ≡ Some Pending
-run-page-pending boot calls run booted all page inside =
+-- a page of a run of unaccepted units is RAM
+pub run-page-ram : (boot : Boot) (calls : List ModuleCall) (run : Units) → UnitsAreRam boot calls → ((unit : ℕ) → in_range run.first run.count unit ≡ true → bit_after boot calls unit ≡ true) → (page : ℕ) → in_range (pages_first boot run) (pages_count boot run) page ≡ true → first_state_of boot.ram page ≢ None
+run-page-ram boot calls run ram all page inside =
     let at = in_range-elim (pages_first boot run) (pages_count boot run) page inside in
     let found = unit-with (boot.base / 4096) (unit_pages boot) run.first run.count page at.0 at.1 in
-    let is_set = all found.unit (in_range-intro run.first run.count found.unit found.low found.high) in
-    booted.pending found.unit page (bit-was boot calls found.unit is_set) (in_range-intro (unit_first boot found.unit) (unit_pages boot) page found.begins found.ends)
+    ram found.unit page (all found.unit (in_range-intro run.first run.count found.unit found.low found.high)) (in_range-intro (unit_first boot found.unit) (unit_pages boot) page found.begins found.ends)
 
 -- such a page has a state after all calls
-pub run-page-some : (boot : Boot) (calls : List ModuleCall) (run : Units) → IsBooted boot → ((unit : ℕ) → in_range run.first run.count unit ≡ true → bit_after boot calls unit ≡ true) → (page : ℕ) → in_range (pages_first boot run) (pages_count boot run) page ≡ true → page_state boot calls page ≢ None
-run-page-some boot calls run booted all page inside =
-    state_after-some (first_state_of boot.ram) calls page
-    (λ none. let no : Some Pending ≡ None = sym (run-page-pending boot calls run booted all page inside) ∙ none in cc)
+pub run-page-some : (boot : Boot) (calls : List ModuleCall) (run : Units) → UnitsAreRam boot calls → ((unit : ℕ) → in_range run.first run.count unit ≡ true → bit_after boot calls unit ≡ true) → (page : ℕ) → in_range (pages_first boot run) (pages_count boot run) page ≡ true → page_state boot calls page ≢ None
+run-page-some boot calls run ram all page inside = state_after-some (first_state_of boot.ram) calls page (run-page-ram boot calls run ram all page inside)
 
 -- the run's pages lie below 2^28
-pub run-low : (boot : Boot) (calls : List ModuleCall) (run : Units) → IsBooted boot → 0 < run.count → ((unit : ℕ) → in_range run.first run.count unit ≡ true → bit_after boot calls unit ≡ true) → (pages_first boot run + pages_count boot run ≤ 2 ^ 28) × (run.first + run.count ≤ 2 ^ 28)
-run-low boot calls run booted some all =
+pub run-low : (boot : Boot) (calls : List ModuleCall) (run : Units) → IsBooted boot → UnitsAreRam boot calls → 0 < run.count → ((unit : ℕ) → in_range run.first run.count unit ≡ true → bit_after boot calls unit ≡ true) → (pages_first boot run + pages_count boot run ≤ 2 ^ 28) × (run.first + run.count ≤ 2 ^ 28)
+run-low boot calls run booted ram some all =
     let size = booted.some in
     let one : 1 * unit_pages boot ≤ run.count * unit_pages boot = mul-le-mul_right (unit_pages boot) some in
     let last : ℕ = pages_first boot run + pages_count boot run - 1 in
-    let in_ram = run-page-pending boot calls run booted all last (in_range-intro (pages_first boot run) (pages_count boot run) last (omega arith) (omega arith)) in
-    let below = booted.low last (λ none. let no : Some Pending ≡ None = sym in_ram ∙ none in cc) in
+    let below = booted.low last (run-page-ram boot calls run ram all last (in_range-intro (pages_first boot run) (pages_count boot run) last (omega arith) (omega arith))) in
     let end : pages_first boot run + pages_count boot run ≤ 2 ^ 28 = omega arith in
     let more : (run.first + run.count) * 1 ≤ (run.first + run.count) * unit_pages boot = mul-le-mul_left (run.first + run.count) size in
     let all_pages : (run.first + run.count) * unit_pages boot ≡ run.first * unit_pages boot + run.count * unit_pages boot = omega arith in

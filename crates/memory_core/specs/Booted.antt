@@ -5,7 +5,7 @@ use Rattle.event_core.specs.declared.boot.Boot.{Boot}
 use Rattle.event_core.specs.declared.module_call.ModuleCall.{ModuleCall}
 use Rattle.event_core.specs.MemoryRows.{page_state, is_pending}
 use Rattle.event_core.specs.Runs.{state_in}
-use Rattle.event_core.specs.Units.{bit_of, unit_first, unit_pages, is_marked}
+use Rattle.event_core.specs.Units.{bit_of, bit_after, unit_first, unit_pages, is_marked}
 
 -- what holds of a boot that a memory begins with: the pages of a set unit are pending at first, RAM lies in memory, a unit has
 -- pages, 512 at most, and there are at most 64 processors
@@ -19,5 +19,11 @@ pub record IsBooted (boot : Boot) : Type 0 where
 -- a page of an unaccepted unit is unaccepted exactly where it is pending
 abbrev pub MarksArePending : Boot → List ModuleCall → Type 0
 MarksArePending boot calls =
-    (unit page : ℕ) → bit_of boot.bits unit ≡ true → in_range (unit_first boot unit) (unit_pages boot) page ≡ true
-    → is_marked true calls page ≡ is_pending (page_state boot calls page)
+    (unit page : ℕ) → bit_after boot calls unit ≡ true → in_range (unit_first boot unit) (unit_pages boot) page ≡ true
+    → is_marked (bit_of boot.bits unit) calls page ≡ is_pending (page_state boot calls page)
+
+-- the pages of an unaccepted unit are RAM
+abbrev pub UnitsAreRam : Boot → List ModuleCall → Type 0
+UnitsAreRam boot calls =
+    (unit page : ℕ) → bit_after boot calls unit ≡ true → in_range (unit_first boot unit) (unit_pages boot) page ≡ true
+    → state_in boot.ram page ≢ None

@@ -18,7 +18,7 @@ use Rattle.page_module.specs.declared.ticket.Ticket.{Ticket}
 use Rattle.event_core.specs.Table.{Bits}
 use Rattle.accepting_ranges.specs.Claims.{range_of}
 use Rattle.memory_core.specs.Bitmaps.{bits_in, SameBits}
-use Rattle.memory_core.specs.Booted.{IsBooted, MarksArePending}
+use Rattle.memory_core.specs.Booted.{IsBooted, MarksArePending, UnitsAreRam}
 use Rattle.memory_core.specs.Steps.{last_stamp, pages_of}
 use Rattle.memory_core.specs.Value.{Handed}
 use Rattle.memory_core.specs.declared.claims.OpenClaim.{OpenClaim}
@@ -63,6 +63,7 @@ ClaimStands boot bit tickets (Some kept) None = ⊥
 pub record HoldsFor (boot : Boot) (calls : List ModuleCall) (claims : ℕ → Option Claimed) (runs : List PageRun) (tickets : List Ticket) (bit : ℕ → Bool) (kept : ℕ → Option OpenClaim) : Type 0 where
   pub bits : (unit : ℕ) → bit unit ≡ bit_after boot calls unit
   pub marks : MarksArePending boot calls
+  pub ram : UnitsAreRam boot calls
   pub states : (page : ℕ) → IsIn boot claims page → state_in runs page ≡ page_state boot calls page
   pub open_claims : (cpu : ℕ) → ClaimStands boot bit tickets (kept cpu) (claims cpu)
   pub apart : (c d : ℕ) (a b : Claimed) → c ≢ d → claims c ≡ Some a → claims d ≡ Some b → units_meet a.units b.units ≡ false

@@ -1,4 +1,4 @@
-use Rattle.std.specs.Prelude.{ℕ, List, [], ◌∷◌, ◌++◌, Option, None, Some, ◌≡◌, ◌+◌, fold, max, if◌then◌else◌}
+use Rattle.std.specs.Prelude.{ℕ, List, [], ◌∷◌, ◌++◌, Option, None, Some, ◌≡◌, ◌+◌, ◌^◌, ◌≤◌, fold, max, if◌then◌else◌}
 use Rattle.std.specs.Option.{option_map_or}
 use Rattle.guest_base.specs.Ranges.{in_range}
 use Rattle.guest_base.specs.Search.{count_such}
@@ -50,11 +50,12 @@ pub record HasStates (boot : Boot) (calls : List ModuleCall) (run : Units) (span
   pub pages : span.ticket.pages ≡ pages_of boot run
   pub states : (page : ℕ) → state_in span.runs page ≡ (if in_range (pages_first boot run) (pages_count boot run) page then page_state boot calls page else None)
 
--- the span is out with a processor, for its open run
+-- the span is out with a processor, for its open run; its pages end within those of memory
 pub record IsOutFor (memory : MemoryValue) (cpu : ℕ) (run : Units) (span : Taken) : Type 0 where
   pub room : ℕ
   pub handed : handed_to memory cpu ≡ Some (record { ticket = span.ticket; room = room })
   pub has : HasStates memory.boot (calls_of memory.boot memory.entries) run span
+  pub low : span.ticket.pages.first + span.ticket.pages.count ≤ 2 ^ 28
 
 -- calls brought the span from the states in which it is out, with this end
 pub record BringsTo (boot : Boot) (before : List ModuleCall) (run : Units) (span : Taken) (calls : List ModuleCall) (end : RunEnd) : Type 0 where

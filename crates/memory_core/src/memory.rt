@@ -6,6 +6,8 @@ ghost use Rattle.event_core.specs.declared.event.Event.TheVariants.{Claim, Asked
 ghost use Rattle.event_core.specs.declared.module_call.ModuleCall.{ModuleCall};
 ghost use Rattle.event_core.specs.Map.{MapRules};
 ghost use Rattle.event_core.specs.Boot.{BootRight};
+ghost use Rattle.event_core.specs.Given.{FitsGiven};
+ghost use Rattle.event_core.specs.Table.{Bits};
 ghost use Rattle.event_core.specs.Runs.{state_in as first_state_of};
 ghost use Rattle.event_core.specs.Calls.{calls_of, SoundCalls};
 ghost use Rattle.event_core.specs.Claims.{Claimed, claim_of, in_the_way};
@@ -103,7 +105,9 @@ impl Memory {
         table: PageTable,
         bits: Option<Bitmap>,
     ) -> Result<Memory, AllocError>
-        requires right { (descriptors : List Descriptor) × (slots : ℕ) × MapRules descriptors boot.now.hosts × BootRight descriptors boot.now.hosts slots boot.now.areas boot.now.cpus boot.now }
+        requires right { (descriptors : List Descriptor) × (table : Option Bits) × (slots : ℕ)
+            × MapRules descriptors boot.now.hosts × FitsGiven descriptors table
+            × BootRight descriptors boot.now.hosts table slots boot.now.areas boot.now.cpus boot.now }
         requires sound { SoundCalls (first_state_of boot.now.ram) boot.now.calls }
         requires cpus { boot.now.cpus ≤ 64 }
         requires states { (page : ℕ) → state_in table.runs page ≡ page_state boot.now boot.now.calls page }

@@ -4,7 +4,7 @@ ghost use Rattle.std.specs.List.{list_any};
 ghost use Rattle.guest_base.specs.Counts.{Rose};
 ghost use Rattle.guest_base.specs.declared.memory.PageState.TheVariants.{Accepted};
 ghost use Rattle.page_module.specs.Spans.{BeginsPending};
-ghost use Rattle.page_module.specs.Modules.{answer_by, AfterCall};
+ghost use Rattle.page_module.specs.Modules.{answer_by, span_call, AfterCall};
 
 use crate::port::Port;
 use crate::span::Span;
@@ -73,6 +73,26 @@ impl MemPort {
         };
         push_within(&mut self.calls, call);
     }
+
+    /// The call of a kind for all pages of a span, which makes them have a state where its answer is Ok.
+    fn call_for_all(&mut self, span: &mut Span, kind: CallKind, state: PageState) -> PortAnswer
+        requires room { vec_len self.old.calls < vec_capacity self.old.calls }
+        ensures calls { self.new.calls.items ≡ self.old.calls.items ++ span_call kind span.old result ∷ [] }
+        ensures answer { (result ≡ PortAnswer.Failed) ⊎ (result ≡ PortAnswer.Ok) }
+        ensures failed { result ≡ PortAnswer.Failed → Rose self.old.faults self.new.faults }
+        ensures after { AfterCall state span.old span.new span.old.ticket.pages.first span.old.ticket.pages.count result }
+        ensures faults_kept { self.old.faults ≤ self.new.faults }
+        ensures never { self.old.failing.items ≡ [] → self.new.faults ≡ self.old.faults }
+        ensures len { vec_len self.new.calls ≡ vec_len self.old.calls + 1 }
+        ensures capacity { vec_capacity self.old.calls ≤ vec_capacity self.new.calls }
+        ensures failing { self.new.failing ≡ self.old.failing }
+    {
+        let pages = span.pages();
+        let answer = self.answer(PortAnswer::Ok);
+        mark_if_done(span, pages, state, answer);
+        self.note(kind, pages, Level::Small, answer);
+        answer
+    }
 }
 
 /// The answer to an accept call of `level` that doesn't fail, where the host has mapped at `host`.
@@ -133,19 +153,15 @@ impl Port for MemPort {
     }
 
     fn share(&mut self, span: &mut Span) -> PortAnswer {
-        let pages = span.pages();
-        let answer = self.answer(PortAnswer::Ok);
-        mark_if_done(span, pages, PageState::Shared, answer);
-        self.note(CallKind::Share, pages, Level::Small, answer);
-        answer
+        self.call_for_all(span, CallKind::Share, PageState::Shared)
     }
 
     fn unshare(&mut self, span: &mut Span) -> PortAnswer {
-        let pages = span.pages();
-        let answer = self.answer(PortAnswer::Ok);
-        mark_if_done(span, pages, PageState::Pending, answer);
-        self.note(CallKind::Unshare, pages, Level::Small, answer);
-        answer
+        self.call_for_all(span, CallKind::Unshare, PageState::Pending)
+    }
+
+    fn give(&mut self, span: &mut Span) -> PortAnswer {
+        self.call_for_all(span, CallKind::Give, PageState::Pending)
     }
 }
 

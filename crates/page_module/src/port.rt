@@ -4,7 +4,7 @@ ghost use Rattle.guest_base.specs.Counts.{Rose};
 ghost use Rattle.guest_base.specs.Levels.{level_pages};
 ghost use Rattle.guest_base.specs.declared.memory.PageState.TheVariants.{Pending, Accepted, Shared};
 ghost use Rattle.event_core.specs.declared.module_call.ModuleCall.{ModuleCall};
-ghost use Rattle.event_core.specs.declared.module_call.CallKind.TheVariants.{Share, Unshare};
+ghost use Rattle.event_core.specs.declared.module_call.CallKind.TheVariants.{Share, Unshare, Give};
 ghost use Rattle.page_module.specs.Spans.{SpanIs};
 ghost use Rattle.page_module.specs.Modules.{MayAccept, answer_by, accept_call, span_call, AfterCall};
 
@@ -76,6 +76,21 @@ pub trait Port: Send {
         requires room { 0 < room self.old }
         requires shared { SpanIs Shared span.old }
         ensures recorded { made self.new ≡ made self.old ++ span_call Unshare span.old result ∷ [] }
+        ensures answer { (result ≡ PortAnswer.Failed) ⊎ (result ≡ PortAnswer.Ok) }
+        ensures failed { result ≡ PortAnswer.Failed → Rose (faults self.old) (faults self.new) }
+        ensures after { AfterCall Pending span.old span.new span.old.ticket.pages.first span.old.ticket.pages.count result }
+        ensures faults_kept { faults self.old ≤ faults self.new }
+        ensures room_used { room self.old ≤ room self.new + 1 }
+        ensures never_fails_kept { never_fails self.old → never_fails self.new };
+
+    /// Asks the module to give the span's pages, which are all Accepted, back to the host. Ok makes all
+    /// Pending.
+    ///
+    /// `Failed` comes only where the count of faults rises, and leaves the span unchanged.
+    fn give(&mut self, span: &mut Span) -> PortAnswer
+        requires room { 0 < room self.old }
+        requires accepted { SpanIs Accepted span.old }
+        ensures recorded { made self.new ≡ made self.old ++ span_call Give span.old result ∷ [] }
         ensures answer { (result ≡ PortAnswer.Failed) ⊎ (result ≡ PortAnswer.Ok) }
         ensures failed { result ≡ PortAnswer.Failed → Rose (faults self.old) (faults self.new) }
         ensures after { AfterCall Pending span.old span.new span.old.ticket.pages.first span.old.ticket.pages.count result }

@@ -34,6 +34,16 @@ fn share_and_take_back<P: Port>(port: &mut P, span: &mut Span) -> bool
     port.share(span) == PortAnswer::Ok && port.unshare(span) == PortAnswer::Ok
 }
 
+/// Gives the span's pages back to the host.
+fn give_back<P: Port>(port: &mut P, span: &mut Span) -> PortAnswer
+    requires room { 0 < P.room port.old }
+    requires accepted { SpanIs Accepted span.old }
+    ensures ticket { span.new.ticket ≡ span.old.ticket }
+    ensures failed { result ≡ PortAnswer.Failed → SpanIs Accepted span.new }
+{
+    port.give(span)
+}
+
 /// Accepts the first pending page of the span.
 fn accept_first<P: Port>(port: &mut P, span: &mut Span) -> Option<PortAnswer>
     requires room { 0 < P.room port.old }
@@ -59,6 +69,21 @@ fn shared_pages_come_back_pending(rt: HostRuntime) -> Result<(), Fail> {
     assert!(rt; share_and_take_back(&mut port, &mut span));
     table.put(span);
     assert_eq!(rt; table.state(Page(0x101)), Some(PageState::Pending));
+    assert_eq!(rt; table.state(Page(0x104)), None);
+    Ok(())
+}
+
+#[test]
+fn pages_given_back_come_back_pending(rt: HostRuntime) -> Result<(), Fail> {
+    let (mut table, mut span) = taken(rt.alloc(), run(0x100, 4, PageState::Accepted))?;
+    let mut port = MemPort::new(rt.alloc(), vec![in rt.alloc(); 1]?);
+    port.reserve(rt.alloc(), 1)?;
+    assert_eq!(rt; give_back(&mut port, &mut span), PortAnswer::Failed);
+    assert_eq!(rt; span.state(Page(0x103)), PageState::Accepted);
+    port.reserve(rt.alloc(), 1)?;
+    assert_eq!(rt; give_back(&mut port, &mut span), PortAnswer::Ok);
+    table.put(span);
+    assert_eq!(rt; table.state(Page(0x103)), Some(PageState::Pending));
     assert_eq!(rt; table.state(Page(0x104)), None);
     Ok(())
 }

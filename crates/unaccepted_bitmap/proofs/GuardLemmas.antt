@@ -3,8 +3,8 @@ use Rattle.std.specs.Prelude.{Option, IfSome, nat_lt, if◌then◌else◌}
 use Rattle.std.proofs.lemmas.Bool.{cases_Bool, cases_lt, ltb-true}
 use Rattle.guest_base.specs.declared.memory.Units.{Units}
 use Rattle.event_core.specs.Units.{unit_count, guarded, units_between, with_guard}
-use Rattle.event_core.specs.Table.{Bits}
-use Rattle.unaccepted_bitmap.specs.BitmapValue.{IsBitmap}
+use Rattle.event_core.specs.Table.{Bits, IsTable}
+use Rattle.unaccepted_bitmap.proofs.TableFacts.{table_facts}
 
 -- units that lie below a bitmap's end, of which there is one
 pub record AreInside (count : ℕ) (units : Units) : Type 0 where
@@ -12,14 +12,15 @@ pub record AreInside (count : ℕ) (units : Units) : Type 0 where
   pub below : units.first + units.count ≤ count
 
 -- a bitmap has hardly more units than memory has pages
-pub unit_count-small : (b : Bits) → IsBitmap b → unit_count b.bits ≤ 2 ^ 28 + 8
+pub unit_count-small : (b : Bits) → IsTable b → unit_count b.bits ≤ 2 ^ 28 + 8
 unit_count-small b h =
-    let page : 4096 ≤ b.unit = omega (arith, h.some, h.whole) in
+    let facts = table_facts b h in
+    let page : 4096 ≤ b.unit = omega (arith, facts.some, facts.whole) in
     elim (cases_lt (2 ^ 28 + 8) (unit_count b.bits)) [
       | inl more ↦
           absurd
           (let wide : (2 ^ 28 + 9) * b.unit ≤ unit_count b.bits * b.unit = mul-le-mul_right b.unit (omega arith) in
-          omega (arith, h.below))
+          omega (arith, facts.below))
       | inr le ↦ le
     ]
 
@@ -72,3 +73,14 @@ guarded-inside size base count start len units some e =
 pub guarded-inside_all : (size base count start len : ℕ) (o : Option Units) → 0 < size → o ≡ guarded size base count start len → IfSome o (λ units. (0 < units.count) × (units.first + units.count ≤ count))
 guarded-inside_all size base count start len None some e = tt
 guarded-inside_all size base count start len (Some units) some e = let h = guarded-inside size base count start len units some (sym e) in (h.some, h.below)
+
+-- what the guarded units of a range within memory need of a bitmap
+pub record HasRoom (b : Bits) (start len : ℕ) : Type 0 where
+  pub some : 0 < b.unit
+  pub room : unit_count b.bits * b.unit < 2 ^ 64
+  pub end : start + len + b.unit < 2 ^ 64
+
+pub has_room : (b : Bits) (start len : ℕ) → IsTable b → start + len ≤ 2 ^ 40 → HasRoom b start len
+has_room b start len is le =
+    let facts = table_facts b is in
+    record { some = facts.some; room = omega (arith, facts.below, facts.small); end = omega (arith, le, facts.small) }

@@ -1,3 +1,4 @@
+pub mod TableFacts
 pub mod BitLemmas
 pub mod RunLemmas
 pub mod GuardLemmas

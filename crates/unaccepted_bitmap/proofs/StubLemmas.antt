@@ -16,7 +16,10 @@ use Rattle.guest_base.specs.Ranges.{in_range}
 use Rattle.guest_base.specs.declared.memory.Units.{Units}
 use Rattle.event_core.specs.declared.boot.Descriptor.{Descriptor}
 use Rattle.event_core.specs.Units.{bit_of}
-use Rattle.unaccepted_bitmap.specs.StubMap.{SetsBits, sets_unit, IsUnaccepted, IsRising}
+use Rattle.event_core.specs.Table.{IsTable}
+use Rattle.guest_base.proofs.SearchLemmas.{any_such_is}
+use Rattle.unaccepted_bitmap.specs.BitmapValue.{SetsBits}
+use Rattle.unaccepted_bitmap.specs.StubMap.{sets_unit, IsUnaccepted, IsStubOf, IsRising}
 use Rattle.event_core.specs.Map.{is_unaccepted, is_ram, descriptor_end, IsDescriptor, AreApart}
 use Rattle.event_core.specs.Stub.{StartsRise, unaccepted, least_start, greatest_end, round_down, round_up, default_unit}
 
@@ -203,3 +206,12 @@ is_rising ds kept ss is each apart same up =
       rise = starts_rise ss good (λ byte. omega (arith, few_hold byte (unaccepted ds) few, sum_by-IsPermutation (held byte) (unaccepted ds) ss same')) up;
       each = good;
     }
+
+-- the boot stub's bitmap is a bitmap
+pub stub_is_table : (ds : List Descriptor) (base : ℕ) (bits : List ℕ) → IsStubOf ds base bits → IsTable (record { unit = 2097152; base = base; bits = bits })
+stub_is_table ds base bits is = record {
+  unit_is = any_such_is (λ order. 2097152 == 4096 * 2 ^ order) 0 10 9 (omega arith) (omega arith) refl;
+  aligned = omega (arith, is.least);
+  low = is.low;
+  few = omega (arith, is.below, is.low);
+}

@@ -28,11 +28,6 @@ StubBitmap map (Some b) = IsStubBitmap map b
 abbrev pub sets_unit : ℕ → ℕ → Descriptor → Bool
 sets_unit base unit d = if is_short d then false else holds_unit (base + unit * default_unit) d
 
--- these bits become set and no other changes
-pub record SetsBits (old new : List ℕ) (units : Units) : Type 0 where
-  pub size : length new ≡ length old
-  pub each : (unit : ℕ) → bit_of new unit ≡ (bit_of old unit || in_range units.first units.count unit)
-
 -- pages that wait for acceptance
 abbrev pub pending_run : Pages → PageRun
 pending_run pages = record { pages = pages; state = Pending }

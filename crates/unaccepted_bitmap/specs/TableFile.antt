@@ -4,11 +4,10 @@
 use Rattle.std.specs.Prelude.{◌≡◌, ◌⊎◌, ℕ, ◌+◌, ◌-◌, ◌*◌, ◌/◌, ◌%◌, ◌^◌, Bool, ◌||◌, ◌==◌, nat_lt, not, List, ◌++◌, length, drop, Option, Some, None, Result, Ok, Err, if◌then◌else◌}
 use Rattle.efi_map.specs.MapFile.{number}
 use Rattle.efi_map.specs.Spelling.{low_bytes}
-use Rattle.event_core.specs.Stub.{default_unit}
 use Rattle.unaccepted_bitmap.specs.declared.fault.TableFault.{TableFault}
 use Rattle.unaccepted_bitmap.specs.declared.fault.TableFault.TheVariants.{Short, BadVersion, BadUnit, BadBase, BadLength, NoMemory}
 use Rattle.unaccepted_bitmap.specs.declared.table.Header.{Header}
-use Rattle.event_core.specs.Table.{Bits}
+use Rattle.event_core.specs.Table.{Bits, is_unit, most_bytes}
 
 -- What a function returned is what reading gives, unless memory ran out.
 abbrev pub GivesTable : Result Bits TableFault → Result Bits TableFault → Type 0
@@ -23,15 +22,11 @@ header_of bytes = record { version = number 4 bytes; unit = number 4 (drop 4 byt
 abbrev pub refuse : TableFault → Bool → Option TableFault → Option TableFault
 refuse fault wrong others = if wrong then Some fault else others
 
--- the most bytes of bits from a base on: their last byte begins below 2^40
-abbrev pub most_bytes : ℕ → ℕ → ℕ
-most_bytes unit base = (2 ^ 40 - base + 8 * unit - 1) / (8 * unit)
-
 -- the first thing that is wrong with the fields, behind which so many bytes stand
 abbrev pub header_fault : Header → ℕ → Option TableFault
 header_fault h left =
     refuse (BadVersion h.version) (not (h.version == 1))
-    (refuse (BadUnit h.unit) (not (h.unit == default_unit))
+    (refuse (BadUnit h.unit) (not (is_unit h.unit))
     (refuse (BadBase h.base) (not (h.base % h.unit == 0) || nat_lt (2 ^ 40) h.base)
     (refuse (BadLength h.size) (not (h.size == left) || nat_lt (most_bytes h.unit h.base) h.size) None)))
 

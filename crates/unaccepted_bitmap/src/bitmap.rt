@@ -1,12 +1,11 @@
 //! A bitmap of unaccepted units.
 ghost use Rattle.std.specs.Prelude.{◌≡◌, ℕ, ◌+◌, ◌^◌, ◌<◌, ◌≤◌, Ok, IfOk, IfSome};
 ghost use Rattle.event_core.specs.Units.{unit_count, bit_of, first_run};
-ghost use Rattle.event_core.specs.Table.{Bits};
-ghost use Rattle.unaccepted_bitmap.specs.BitmapValue.{IsBitmap, ClearsBits, guarded_in, any_unit};
-ghost use Rattle.event_core.specs.Stub.{default_unit};
+ghost use Rattle.event_core.specs.Table.{IsTable};
+ghost use Rattle.unaccepted_bitmap.specs.BitmapValue.{ClearsBits, SetsBits, guarded_in, any_unit};
 ghost use Rattle.unaccepted_bitmap.specs.TableFile.{table_of, table_bytes_of};
 
-use crate::bytes::{clear_units, run_of_set};
+use crate::bytes::{clear_units, run_of_set, set_units};
 use crate::guard::guarded_units;
 use crate::stub::{UNIT, stub_bits, unaccepted};
 use crate::table::table_bytes;
@@ -25,14 +24,13 @@ pub struct Bitmap {
 }
 
 impl Model for Bitmap {
-    ghost use Rattle.event_core.specs.Table.{Bits};
-    ghost use Rattle.unaccepted_bitmap.specs.BitmapValue.{IsBitmap};
+    ghost use Rattle.event_core.specs.Table.{Bits, IsTable};
 
     ghost Value = { Bits };
 
     ghost view = { λ a. record { unit = a.unit; base = a.base; bits = a.bits.items } };
 
-    ghost invariant = { λ a. IsBitmap (record { unit = a.unit; base = a.base; bits = a.bits.items }) };
+    ghost invariant = { λ a. IsTable (record { unit = a.unit; base = a.base; bits = a.bits.items }) };
 }
 
 impl Bitmap {
@@ -59,7 +57,7 @@ impl Bitmap {
 
     /// The bitmap with these bytes of a unit, this base in bytes, and these bits.
     pub(crate) fn from_bits(unit: u64, base: u64, bits: Vec<u8>) -> Bitmap
-        requires { IsBitmap (record { unit = unit; base = base; bits = bits.items }) }
+        requires { IsTable (record { unit = unit; base = base; bits = bits.items }) }
         ensures { result ≡ record { unit = unit; base = base; bits = bits.items } }
     {
         Bitmap { unit, base, bits }
@@ -68,7 +66,7 @@ impl Bitmap {
     /// The bytes of a unit.
     pub fn unit(&self) -> u64
         ensures value { result ≡ self.now.unit }
-        ensures kept { IsBitmap self.now }
+        ensures kept { IsTable self.now }
     {
         self.unit
     }
@@ -76,7 +74,7 @@ impl Bitmap {
     /// The address of the first unit, in bytes.
     pub fn base(&self) -> u64
         ensures value { result ≡ self.now.base }
-        ensures kept { IsBitmap self.now }
+        ensures kept { IsTable self.now }
     {
         self.base
     }
@@ -84,7 +82,7 @@ impl Bitmap {
     /// The number of units.
     pub fn unit_count(&self) -> u64
         ensures value { result ≡ unit_count self.now.bits }
-        ensures kept { IsBitmap self.now }
+        ensures kept { IsTable self.now }
     {
         self.bits.len() as u64 * 8
     }
@@ -96,10 +94,10 @@ impl Bitmap {
         Ok(Bytes::from_vec(Vec::from_slice(alloc, self.bits.as_slice())?))
     }
 
-    /// The unaccepted table of the bitmap. Read again, it gives the bitmap, where a unit is 2 MiB.
+    /// The unaccepted table of the bitmap. Read again, it gives the bitmap.
     pub fn table_bytes(&self, alloc: Global) -> Result<Bytes, AllocError>
         ensures written { IfOk result (λ bytes. bytes ≡ table_bytes_of self.now) }
-        ensures again { self.now.unit ≡ default_unit → IfOk result (λ bytes. table_of bytes ≡ Ok self.now) }
+        ensures again { IfOk result (λ bytes. table_of bytes ≡ Ok self.now) }
     {
         table_bytes(alloc, self.unit, self.base, self.bits.as_slice())
     }
@@ -112,7 +110,7 @@ impl Bitmap {
         requires end { start + len ≤ 2 ^ 40 }
         ensures units { result ≡ guarded_in self.now start len }
         ensures inside { IfSome result (λ units. (0 < units.count) × (units.first + units.count ≤ unit_count self.now.bits)) }
-        ensures kept { IsBitmap self.now }
+        ensures kept { IsTable self.now }
     {
         guarded_units(self.unit, self.base, self.unit_count(), start, len)
     }
@@ -146,5 +144,15 @@ impl Bitmap {
         ensures bits { ClearsBits self.old.bits self.new.bits units }
     {
         clear_units(&mut self.bits, units);
+    }
+
+    /// Marks these units as unaccepted.
+    pub fn set(&mut self, units: Units)
+        requires { units.first + units.count ≤ unit_count self.old.bits }
+        ensures unit { self.new.unit ≡ self.old.unit }
+        ensures base { self.new.base ≡ self.old.base }
+        ensures bits { SetsBits self.old.bits self.new.bits units }
+    {
+        set_units(&mut self.bits, units);
     }
 }

@@ -3,7 +3,7 @@ ghost use Rattle.std.specs.Prelude.{◌≡◌, ℕ, ◌+◌, ◌-◌, ◌^◌, �
 ghost use Rattle.guest_base.specs.Search.{first_such, row_length};
 ghost use Rattle.event_core.specs.Units.{bit_of, unit_count, first_run};
 ghost use Rattle.unaccepted_bitmap.specs.BitmapValue.{ClearsBits};
-ghost use Rattle.unaccepted_bitmap.specs.StubMap.{SetsBits};
+ghost use Rattle.unaccepted_bitmap.specs.BitmapValue.{SetsBits};
 
 use guest_base::Units;
 

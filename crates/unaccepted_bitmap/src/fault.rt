@@ -15,7 +15,7 @@ pub enum TableFault {
     /// The version isn't 1.
     #[error("version {0}")]
     BadVersion(u32),
-    /// A unit isn't 2 MiB, but this many bytes.
+    /// A unit, of this many bytes, isn't a power of two from 4 KiB (4,096) to 2 MiB (2,097,152).
     #[error("units of {0} bytes")]
     BadUnit(u32),
     /// The base, this address in bytes, doesn't stand on a unit's border or is above 2^40.

@@ -1,11 +1,11 @@
 //! The file of an unaccepted table (after Linux's `struct efi_unaccepted_memory`). Numbers are little endian.
-ghost use Rattle.std.specs.Prelude.{◌≡◌, ◌≤◌, ◌++◌, IfOk, OnOk, length};
+ghost use Rattle.std.specs.Prelude.{◌≡◌, ◌*◌, ◌^◌, ◌<◌, ◌≤◌, ◌++◌, IfOk, OnOk, length};
 ghost use Rattle.efi_map.specs.Spelling.{low_bytes};
+ghost use Rattle.event_core.specs.Table.{is_unit, most_bytes};
 ghost use Rattle.unaccepted_bitmap.specs.TableFile.{GivesTable, header_of, header_fault, table_of, table_bytes_of};
 
 use crate::bitmap::Bitmap;
 use crate::fault::TableFault;
-use crate::stub::UNIT;
 use byteorder::{ByteOrder, LittleEndian};
 use guest_base::Bytes;
 use guest_base::limits::ADDRESS_END;
@@ -42,6 +42,28 @@ fn read_header(bytes: &[u8]) -> Header
     }
 }
 
+/// Whether so many bytes are a unit: a power of two from 4 KiB to 2 MiB.
+fn is_unit(unit: u64) -> bool
+    ensures { result ≡ is_unit unit }
+{
+    for order in 0..10u32 {
+        if unit == 4096 << order {
+            return true;
+        }
+    }
+    false
+}
+
+/// The most bytes of bits from a base on: their last byte begins below 2^40.
+fn most_bytes(unit: u64, base: u64) -> u64
+    requires some { 0 < unit }
+    requires room { 8 * unit < 2 ^ 64 }
+    requires low { base ≤ 2 ^ 40 }
+    ensures { result ≡ most_bytes unit base }
+{
+    (ADDRESS_END - base).div_ceil(8 * unit)
+}
+
 /// The first thing that is wrong with the fields of a table behind which so many bytes stand.
 fn header_fault(header: Header, left: u64) -> Option<TableFault>
     ensures { result ≡ header_fault header left }
@@ -49,11 +71,11 @@ fn header_fault(header: Header, left: u64) -> Option<TableFault>
     let unit = u64::from(header.unit);
     if u64::from(header.version) != VERSION {
         Some(TableFault::BadVersion(header.version))
-    } else if unit != UNIT {
+    } else if !is_unit(unit) {
         Some(TableFault::BadUnit(header.unit))
     } else if header.base % unit != 0 || header.base > ADDRESS_END {
         Some(TableFault::BadBase(header.base))
-    } else if header.size != left || left > (ADDRESS_END - header.base).div_ceil(8 * unit) {
+    } else if header.size != left || left > most_bytes(unit, header.base) {
         Some(TableFault::BadLength(header.size))
     } else {
         None

@@ -157,8 +157,8 @@ fn refuses_changed_tables(rt: HostRuntime) {
     let alloc = rt.alloc();
     assert_eq!(rt; fault_at(alloc, 0, 2), Some(TableFault::BadVersion(2)));
     assert_eq!(rt;
-        fault_at(alloc, 6, 0x10),
-        Some(TableFault::BadUnit(0x10_0000))
+        fault_at(alloc, 6, 0x30),
+        Some(TableFault::BadUnit(0x30_0000))
     );
     assert_eq!(rt;
         fault_at(alloc, 9, 0x10),

@@ -1,5 +1,5 @@
 use Rattle.std.proofs.Common.{◌-◌}
-use Rattle.unaccepted_bitmap.specs.StubMap.{SetsBits}
+use Rattle.unaccepted_bitmap.specs.BitmapValue.{SetsBits}
 use Rattle.unaccepted_bitmap.proofs.bytes.set_units.Given as goal
 
 abbrev pub invariant-loop-unit : goal.invariant-loop-unit

@@ -19,7 +19,7 @@ use Rattle.memory_core.proofs.BegunLemmas.{seen, both-is, claimed-facts, appends
 use Rattle.memory_core.proofs.BitsLemmas.{guarded-same, run-pages-are}
 use Rattle.memory_core.proofs.OpenLemmas.{way-some, way-none, room-take, runs-few, has-states}
 use Rattle.memory_core.proofs.StepLemmas.{stands-more, calls-claimed, claims-closed}
-use Rattle.memory_core.proofs.UnitsLemmas.{run-page-some}
+use Rattle.memory_core.proofs.UnitsLemmas.{run-page-some, run-low}
 use Rattle.memory_core.proofs.memory.Memory.begin_accept.Goals as goal
 
 pub returns-in-Some-clause-begun : goal.returns-in-Some-clause-begun
@@ -62,7 +62,7 @@ take-span-requires-clause-here c page inside none =
     let pages = run-pages-are i.boot.value i.bits run c.run_pages.result s.same_bits c.run_pages.ensures in
     let first = f.first in
     let at : in_range (pages_first i.boot.value run) (pages_count i.boot.value run) page ≡ true = sym (ap (λ (p : Pages). in_range p.first p.count page) pages) ∙ inside in
-    run-page-some i.boot.value (calls_of i.boot.value i.entries.items) run s.booted (λ unit h. sym (s.holds.bits unit) ∙ first.set unit h) page at
+    run-page-some i.boot.value (calls_of i.boot.value i.entries.items) run s.holds.ram (λ unit h. sym (s.holds.bits unit) ∙ first.set unit h) page at
     (sym (s.holds.states page (claimed-in i.boot.value i.entries i.last i.table i.bits i.accepting i.claims.items i.unit_pages i.kept i.room units run s f.clear first page at)) ∙ none)
 
 pub take-span-requires-clause-room : goal.take-span-requires-clause-room
@@ -173,7 +173,8 @@ returns-in-Some-both_of-clause-begun c =
           (c.set_claim.ensures ∙ ap (λ n. slice_set i.claims.items n (Some (made_claim units run c.ticket.result left))) cpu_now) c.ticket.ensures
           (ap (calls_of i.boot.value) c.append.ensures.entries ∙ calls-claimed i.boot.value i.entries.items turn i.last U R)
           (has-states i.boot.value calls (claim_of i.boot.value i.entries.items) run c.run_pages.result i.table.runs c.take-span.result pages c.take-span.ensures.pages c.take-span.ensures.states
-          (claimed-in i.boot.value i.entries i.last i.table i.bits i.accepting i.claims.items i.unit_pages i.kept i.room units run s f.clear first) s.holds.states);
+          (claimed-in i.boot.value i.entries i.last i.table i.bits i.accepting i.claims.items i.unit_pages i.kept i.room units run s f.clear first) s.holds.states)
+          (run-low i.boot.value calls run s.booted s.holds.ram first.some (λ unit h. sym (s.holds.bits unit) ∙ first.set unit h)).0;
     })
 
 pub returns-in-Some-both_of-clause-appends : goal.returns-in-Some-both_of-clause-appends

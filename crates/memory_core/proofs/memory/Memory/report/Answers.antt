@@ -26,7 +26,7 @@ use Rattle.memory_core.proofs.BegunLemmas.{seen, appends-of, out-for}
 use Rattle.memory_core.proofs.BitsLemmas.{run-pages-are, cleared-same}
 use Rattle.memory_core.proofs.CloseLemmas.{stands-closed, stands-next, calls-after}
 use Rattle.memory_core.proofs.OpenLemmas.{room-take, runs-few, item-inside}
-use Rattle.memory_core.proofs.ReportLemmas.{opened, next-facts, next-few, next-here, next-has, not-stopped}
+use Rattle.memory_core.proofs.ReportLemmas.{opened, next-facts, next-few, next-here, next-low, next-has, not-stopped}
 use Rattle.memory_core.proofs.ReportedLemmas.{same-claim, reports-of, kept-covers, next-found, event-is, cleared-is, others-reported, reported-closed}
 use Rattle.memory_core.proofs.memory.Memory.report.Goals as goal
 
@@ -85,7 +85,7 @@ take-span-requires-clause-here c page inside none =
     let pages = run-pages-are boot c.clear_run.new.bits run c.run_pages.result (cleared-same boot i.bits c.clear_run.new.bits (pending_of c.args.span) claim.run c.clear_run.result s.same_bits r.clears) c.run_pages.ensures in
     let few = next-few boot (calls_of boot i.entries.items) now (claim_of boot i.entries.items) i.table c.put.new.self i.bits c.clear_run.new.bits (kept_by i.claims.items) cpu o claim c.args.span c.args.end c.clear_run.result r run next_none in
     let at : in_range (pages_first boot run) (pages_count boot run) page ≡ true = sym (ap (λ (p : Pages). in_range p.first p.count page) pages) ∙ inside in
-    next-here boot (calls_of boot i.entries.items) now (claim_of boot i.entries.items) i.table c.put.new.self i.bits c.clear_run.new.bits (kept_by i.claims.items) cpu o claim c.args.span c.args.end c.clear_run.result r run s.booted next_none page at none
+    next-here boot (calls_of boot i.entries.items) now (claim_of boot i.entries.items) i.table c.put.new.self i.bits c.clear_run.new.bits (kept_by i.claims.items) cpu o claim c.args.span c.args.end c.clear_run.result r run next_none page at none
 
 pub take-span-requires-clause-room : goal.take-span-requires-clause-room
 take-span-requires-clause-room c =
@@ -244,7 +244,8 @@ returns-in-Some-clause-reported c claim' has =
       next = next;
       out = out-for boot c.append.new.entries.items i.claims.items c.set_claim.new.claims.items 0 cpu run c.take-span.result made (calls_of boot i.entries.items ++ now) (item-inside i.claims.items cpu o c.open_claim-claim.ensures) set refl
           (calls-after boot i.entries.items c.append.new.entries.items turn i.last claim now entries)
-          (next-has boot (calls_of boot i.entries.items) now (claim_of boot i.entries.items) i.table c.put.new.self i.bits c.clear_run.new.bits (kept_by i.claims.items) cpu o claim c.args.span c.args.end c.clear_run.result r run c.run_pages.result c.take-span.result next_none pages c.take-span.ensures.pages c.take-span.ensures.states);
+          (next-has boot (calls_of boot i.entries.items) now (claim_of boot i.entries.items) i.table c.put.new.self i.bits c.clear_run.new.bits (kept_by i.claims.items) cpu o claim c.args.span c.args.end c.clear_run.result r run c.run_pages.result c.take-span.result next_none pages c.take-span.ensures.pages c.take-span.ensures.states)
+          (next-low boot (calls_of boot i.entries.items) now (claim_of boot i.entries.items) i.table c.put.new.self i.bits c.clear_run.new.bits (kept_by i.claims.items) cpu o claim c.args.span c.args.end c.clear_run.result r run s.booted next_none);
     }))
 
 pub returns-in-Some-clause-appends : goal.returns-in-Some-clause-appends

@@ -1,0 +1,10 @@
+pub mod RiseLemmas
+pub mod TurnLemmas
+pub mod PlaceLemmas
+pub mod StageLemmas
+pub mod MarkLemmas
+pub mod EarlyLemmas
+pub mod UnitFacts
+pub mod WaitFacts
+pub mod TableFacts
+pub mod ComingFacts
