@@ -42,7 +42,7 @@ fn whole_blocks_wait(rt: HostRuntime) -> Result<(), Fail> {
     let alloc = rt.alloc();
     let map = map_of(alloc, &[(7, 0, 1024), (15, 0x40_0000, 2048)])?;
     let mut port = MemPort::new(alloc, Vec::new(alloc));
-    let world = boot(alloc, &map, 4, 2, &mut port).ok().ok_or("no world")?;
+    let world = boot(alloc, &map, None, 4, 2, &mut port).ok().ok_or("no world")?;
     assert!(rt; world.boot.calls.is_empty());
     assert_eq!(rt; (world.boot.areas, world.boot.cpus), (4, 2));
     let units = Units { first: 0, count: 4 };
@@ -55,7 +55,7 @@ fn short_descriptors_are_accepted(rt: HostRuntime) -> Result<(), Fail> {
     let alloc = rt.alloc();
     let map = map_of(alloc, &[(7, 0, 1024), (15, 0x40_0000, 1023)])?;
     let mut port = MemPort::new(alloc, Vec::new(alloc));
-    let world = boot(alloc, &map, 1, 1, &mut port).ok().ok_or("no world")?;
+    let world = boot(alloc, &map, None, 1, 1, &mut port).ok().ok_or("no world")?;
     let mut calls = vec![in alloc; accepted(0x400, Level::Large)]?;
     for page in 0x600..0x7ff {
         calls.push(accepted(page, Level::Small))?;
@@ -70,7 +70,7 @@ fn small_blocks_are_accepted(rt: HostRuntime) -> Result<(), Fail> {
     let alloc = rt.alloc();
     let map = map_of(alloc, &[(15, 0x40_0000, 2560)])?;
     let mut port = MemPort::new(alloc, Vec::new(alloc));
-    let world = boot(alloc, &map, 1, 1, &mut port).ok().ok_or("no world")?;
+    let world = boot(alloc, &map, None, 1, 1, &mut port).ok().ok_or("no world")?;
     let calls = [accepted(0xc00, Level::Large)];
     assert_eq!(rt; world.boot.calls.as_slice(), calls.as_slice());
     let units = Units { first: 0, count: 4 };
@@ -83,7 +83,7 @@ fn stops_where_the_module_fails(rt: HostRuntime) -> Result<(), Fail> {
     let alloc = rt.alloc();
     let map = map_of(alloc, &[(15, 0x40_0000, 1023)])?;
     let mut port = MemPort::new(alloc, vec![in alloc; 3]?);
-    let fault = boot(alloc, &map, 1, 1, &mut port).err().ok_or("a world")?;
+    let fault = boot(alloc, &map, None, 1, 1, &mut port).err().ok_or("a world")?;
     assert_eq!(rt; fault, BootFault::Module(Page(0x601)));
     Ok(())
 }
