@@ -1,6 +1,7 @@
-use Rattle.std.proofs.Common.{◌≡◌, ℕ, ◌+◌, ◌-◌, ◌*◌, ◌/◌, ◌<◌, ◌≤◌, Bool, true, false, ◌&&◌, Option, None, Some, List, refl, sym, ◌∙◌, ap, arith, cond}
+use Rattle.std.proofs.Common.{◌≡◌, ℕ, ◌+◌, ◌-◌, ◌*◌, ◌/◌, ◌^◌, ◌<◌, ◌≤◌, Bool, true, false, ◌&&◌, Option, None, Some, List, refl, sym, ◌∙◌, ap, arith, cond}
 use Rattle.std.specs.Prelude.{nat_lt, not, max, min}
 use Rattle.std.specs.Option.{option_and_then}
+use Rattle.std.proofs.Math.Nat.{mul-le-mul_right}
 use Rattle.guest_base.specs.Ranges.{in_range}
 use Rattle.guest_base.specs.Search.{any_such, count_such}
 use Rattle.guest_base.proofs.SearchLemmas.{any_such_same, count_such_same}
@@ -11,7 +12,8 @@ use Rattle.event_core.specs.declared.entry.Entry.{Entry}
 use Rattle.event_core.specs.Calls.{calls_of}
 use Rattle.event_core.specs.MemoryRows.{run_of_claim, some_unaccepted}
 use Rattle.event_core.specs.Units.{bit_of, bit_after, unit_first, unit_pages, unit_count, first_run, guarded, guarded_units, with_guard, units_between}
-use Rattle.event_core.specs.Table.{Bits}
+use Rattle.event_core.specs.Table.{Bits, IsTable}
+use Rattle.unaccepted_bitmap.proofs.TableFacts.{table_facts}
 use Rattle.memory_core.specs.Bitmaps.{bits_in, guarded_by, any_in, SameBits, PagesOf, ClearedIn, unit_first_of, unit_pages_of}
 use Rattle.memory_core.specs.Steps.{pages_of}
 use Rattle.memory_core.proofs.UnitsLemmas.{in_range-intro, first_run-same}
@@ -33,6 +35,25 @@ run-inside b run some all =
     let below : nat_lt last (unit_count b.bits) ≡ true = first-both _ _ set in
     let lt : last < unit_count b.bits = lt-of last (unit_count b.bits) below in
     omega arith
+
+-- the pages of units of a bitmap lie in memory, but for less than a byte of bits
+pub record PagesLow (base size first count : ℕ) : Type 0 where
+  pub starts : base / 4096 + first * size < 2 ^ 29
+  pub lasts : count * size < 2 ^ 29
+  pub ends : base / 4096 + first * size + count * size < 2 ^ 29
+
+pub pages-low : (b : Bits) (units : Units) → IsTable b → units.first + units.count ≤ unit_count b.bits → PagesLow b.base (b.unit / 4096) units.first units.count
+pages-low b units is inside =
+    let facts = table_facts b is in
+    let size = b.unit / 4096 in
+    let whole : b.unit ≡ 4096 * size = (let even = facts.whole in omega (arith, even)) in
+    let all : unit_count b.bits * b.unit ≡ 4096 * (unit_count b.bits * size) = (let each : unit_count b.bits * (4096 * size) ≡ 4096 * (unit_count b.bits * size) = omega arith in ap (λ u. unit_count b.bits * u) whole ∙ each) in
+    let under : (units.first + units.count) * size ≤ unit_count b.bits * size = mul-le-mul_right size inside in
+    let parts : (units.first + units.count) * size ≡ units.first * size + units.count * size = omega arith in
+    let below = facts.below in
+    let small = facts.small in
+    let end : b.base / 4096 + units.first * size + units.count * size < 2 ^ 29 = omega (arith, all, under, parts, below, small) in
+    record { starts = omega (arith, end); lasts = omega (arith, end); ends = end }
 
 pub set-here : (b : Bits) (bits : Option Bits) (run : Units) → bits ≡ Some b → ((unit : ℕ) → in_range run.first run.count unit ≡ true → bits_in bits unit ≡ true) → (unit : ℕ) → in_range run.first run.count unit ≡ true → bit_of b.bits unit ≡ true
 set-here b bits run is all unit inside = sym (ap (λ o. bits_in o unit) is) ∙ all unit inside
