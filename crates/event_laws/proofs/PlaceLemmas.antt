@@ -218,7 +218,9 @@ above-by u place whole block start base block_is base_is low over some =
           let parts : (place + gap) * u ≡ place * u + gap * u = grind arith in
           let at : block ≡ place * u + gap * u = block_is ∙ ap (λ w. w * u) here ∙ parts in
           let bytes : gap * (4096 * u) ≡ 4096 * (gap * u) = grind arith in
-          let fit : gap ≤ (4096 * start - base) / (4096 * u) = (le-div_iff_mul-le (omega (arith, some))).1 (omega (arith, bytes, at, base_is, low)) in
+          let positive : 0 < 4096 * u = omega (arith, some) in
+          let within : gap * (4096 * u) ≤ 4096 * start - base = omega (arith, bytes, at, base_is, low) in
+          let fit : gap ≤ (4096 * start - base) / (4096 * u) = (le-div_iff_mul-le positive).1 within in
           let up : gap * u ≤ (4096 * start - base) / (4096 * u) * u = mul-le-mul_right u fit in
           omega (arith, at, up))
       | inr few ↦

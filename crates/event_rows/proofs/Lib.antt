@@ -8,6 +8,7 @@ pub mod FreeLemmas
 pub mod FullFacts
 pub mod GivingFacts
 pub mod MeanwhileFacts
+pub mod OnceFacts
 pub mod OnePageFacts
 pub mod PickLemmas
 pub mod PoolBootFacts
@@ -16,6 +17,7 @@ pub mod RowLemmas
 pub mod SmallUnitFacts
 pub mod SplitLemmas
 pub mod StrayFacts
+pub mod TableFacts
 pub mod ToldFacts
 pub mod TouchFacts
 pub mod TurnFacts

@@ -26,7 +26,7 @@ use Rattle.event_rows.specs.Written.{entry_at, accepted_guest}
 
 -- A block of 4 MiB is given back to the host: the module refuses it once, then it is done, and the block is accepted and got anew.
 
--- a guest of 4 MiB, all accepted by a table of two units or more whose bits are clear
+-- a guest of 4 MiB, all accepted: the bits of the eight units of its table are clear
 abbrev pub giving_guest : Boot
 giving_guest = record (accepted_guest 0 1024) { bits = 0 ∷ [] }
 

@@ -8,6 +8,7 @@ pub mod OnePage
 pub mod SmallMap
 pub mod SmallUnits
 pub mod Straying
+pub mod Tables
 pub mod Touched
 pub mod TwoAreas
 pub mod TwoProcessors

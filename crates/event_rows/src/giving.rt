@@ -3,11 +3,14 @@ ghost use Rattle.std.specs.Prelude.{Option, None, Some, Bool, true, false, [], �
 ghost use Rattle.event_core.specs.declared.event.ConvertEnd.TheVariants as end;
 ghost use Rattle.event_core.specs.declared.module_call.PortAnswer.TheVariants as answer;
 ghost use Rattle.event_core.specs.declared.reply.Reply.TheVariants as reply;
+ghost use Rattle.event_core.specs.AcceptedOnce.{AcceptedOnce};
 ghost use Rattle.event_core.specs.Blocks.{is_owned};
+ghost use Rattle.event_core.specs.Calls.{SoundCalls};
 ghost use Rattle.event_core.specs.ConvertRows.{convert_end};
 ghost use Rattle.event_core.specs.Holdings.{PrivateBlock, SharedBlock, HalfBlock};
 ghost use Rattle.event_core.specs.Legal.{Whole};
 ghost use Rattle.event_core.specs.Own.{nothing};
+ghost use Rattle.event_core.specs.Runs.{state_in};
 ghost use Rattle.event_rows.specs.Giving.{giving_guest, giving_script, giving_history, given_block, give_call, refused_part, given_part, begun_again, giveback_refusal, has_block, has_mapped, half_of_block, block_of_last_units, block_past_units};
 ghost use Rattle.event_rows.specs.Straying.{stray_guest};
 
@@ -49,4 +52,14 @@ pub fn giveback_is_refused()
 pub fn giveback_is_admitted()
     ensures { (giveback_refusal giving_guest (has_block given_block PrivateBlock) ≡ None)
         × (giveback_refusal giving_guest (has_block block_of_last_units PrivateBlock) ≡ None) }
+{}
+
+/// The block's pages are accepted again, and yet each call finds its pages as it needs them, since they were given back between.
+pub fn given_block_is_accepted_once()
+    ensures { AcceptedOnce giving_guest (giving_history true) }
+{}
+
+/// A block isn't given back twice: the second call doesn't find its pages accepted.
+pub fn given_twice_is_not()
+    ensures { SoundCalls (state_in giving_guest.ram) (give_call given_block answer.Ok ∷ give_call given_block answer.Ok ∷ []) → ⊥ }
 {}

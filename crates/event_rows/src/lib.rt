@@ -14,6 +14,7 @@ mod processors;
 mod small_units;
 mod steps;
 mod straying;
+mod tables;
 mod told;
 mod touches;
 mod turns;
@@ -35,7 +36,8 @@ pub use bounces::{block_bounced_is_whole, block_miscopied_is_not, device_misread
 pub use conversions::{block_converted_is_whole, bytes_kept_is_not, half_block_found_is_not};
 pub use giving::{
     bits_left_is_not, giveback_ends_by_its_call, giveback_is_admitted, giveback_is_refused,
-    given_block_is_not_owned, given_block_is_whole,
+    given_block_is_accepted_once, given_block_is_not_owned, given_block_is_whole,
+    given_twice_is_not,
 };
 pub use meanwhile::{
     claim_goes_by_its_bits, given_meanwhile_is_whole, given_meanwhile_taken_is_not,
@@ -52,16 +54,19 @@ pub use steps::blocked_whatever_is_answered;
 pub use straying::{
     accepted_page_is_there, given_page_found_is_not, given_page_is_absent, given_page_is_whole,
 };
+pub use tables::{
+    giving_guest_is_booted, meanwhile_guest_is_booted, small_table_fits,
+    small_unit_guest_is_booted, unit_outside_is_bad,
+};
 pub use told::{
-    block_bytes_are_told, bounced_bytes_are_told, other_bytes_are_not_told,
-    other_device_bytes_are_not_told,
+    block_bytes_are_told, bounced_bytes_are_told, bytes_mistold_is_not, device_mistold_is_not,
 };
 pub use touches::{
     bounces_are_disjoint, bounces_touch_the_block, conversions_are_untouched,
     conversions_touch_private_pages,
 };
 pub use turns::{
-    both_accept_is_turned, both_accept_is_turned_by_rounds, nothing_is_not_turned,
-    second_first_is_not_turned,
+    both_accept_is_turned, both_accept_is_turned_by_rounds, second_first_is_not,
+    turned_to_nothing_is_not,
 };
 pub use waiting::{page_got_at_once_is_not, waiting_block_is_whole};

@@ -11,7 +11,7 @@ pub fn block_bytes_are_told()
 {}
 
 /// No read of the block tells other bytes.
-pub fn other_bytes_are_not_told()
+pub fn bytes_mistold_is_not()
     ensures { (read : List ℕ) → read ≢ 0 ∷ 1 ∷ 2 ∷ 0 ∷ [] → BytesTold page_guest (page_script ∷ []) (page_history read) → ⊥ }
 {}
 
@@ -21,6 +21,6 @@ pub fn bounced_bytes_are_told()
 {}
 
 /// No read of the device tells other bytes than those of its slots.
-pub fn other_device_bytes_are_not_told()
+pub fn device_mistold_is_not()
     ensures { (read told : List ℕ) → told ≢ 7 ∷ 170 ∷ [] → BytesTold pool_guest (bounce_script ∷ []) (bounce_history read told) → ⊥ }
 {}

@@ -14,11 +14,11 @@ pub fn both_accept_is_turned_by_rounds()
 {}
 
 /// Turns don't end before the processors are finished: in no order they make no entry.
-pub fn nothing_is_not_turned()
+pub fn turned_to_nothing_is_not()
     ensures { (order : List ℕ) → Turned small_pair (first_script ∷ second_script ∷ []) order [] → ⊥ }
 {}
 
 /// Turns that begin with the second processor don't make that history: it would find its unit unaccepted.
-pub fn second_first_is_not_turned()
+pub fn second_first_is_not()
     ensures { (order : List ℕ) → Turned small_pair (first_script ∷ second_script ∷ []) (1 ∷ order) (both_accept 2 0) → ⊥ }
 {}

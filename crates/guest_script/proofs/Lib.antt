@@ -2,3 +2,4 @@ pub mod NumberLemmas
 pub mod LineLemmas
 pub mod NameLemmas
 pub mod ScriptLemmas
+pub mod ReadableLemmas

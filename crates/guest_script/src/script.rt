@@ -1,7 +1,7 @@
 //! Scripts.
-ghost use Rattle.std.specs.Prelude.{◌≡◌, ◌+◌, ◌≤◌, ◌∷◌, length, sum_by, MatchResult, OnOk, IfErr, Err};
+ghost use Rattle.std.specs.Prelude.{◌≡◌, ◌+◌, ◌≤◌, ◌∷◌, length, sum_by, MatchResult, IfOk, OnOk, IfErr, Err};
 ghost use Rattle.std.specs.Str.{is_utf8};
-ghost use Rattle.event_core.specs.ReadableScript.{bytes_named};
+ghost use Rattle.event_core.specs.ReadableScript.{bytes_named, ReadableScript};
 ghost use Rattle.guest_script.specs.Words.{texts};
 ghost use Rattle.guest_script.specs.Answers.{LineFails};
 ghost use Rattle.guest_script.specs.Script.{is_comment, line_words, with_words, with_line, script_of, ScriptFails, ScriptGives, fault_at};
@@ -17,8 +17,10 @@ use std::alloc::Global;
 
 /// Reads a script. Lines are ended by line feeds, words parted by spaces and tabs, and a line without words
 /// or whose first word begins with `#` is skipped. The fault is the first one in the order of the lines.
+/// A script has at most 2,048 commands, which name at most 4,194,304 bytes together.
 pub fn read_script(alloc: Global, bytes: &[u8]) -> Result<Script, ScriptFault>
-    ensures { ScriptGives result (script_of bytes.now) }
+    ensures script { ScriptGives result (script_of bytes.now) }
+    ensures readable { IfOk result (λ script. ReadableScript script) }
 {
     let mut commands = Vec::new(alloc);
     let mut named = 0;

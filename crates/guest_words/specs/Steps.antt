@@ -5,7 +5,7 @@ use Rattle.guest_words.specs.declared.place.Place.{Place}
 use Rattle.guest_words.specs.declared.told.Files.{Files}
 use Rattle.guest_words.specs.declared.told.Files.TheVariants.{Empty, Order, Map, Script}
 use Rattle.guest_words.specs.declared.told.SoFar.{SoFar}
-use Rattle.guest_words.specs.Words.{Told, Named, joined, part_of, value_part, end_at, turns_of, ◌>>=◌}
+use Rattle.guest_words.specs.Words.{Told, Named, joined, part_of, value_part, option_part, choice_of, name_in, value_in, end_at, turns_of, ◌>>=◌}
 
 -- What is told so far, as the reader keeps it.
 
@@ -38,6 +38,9 @@ told_after before part = if is_small (joined before part.1) then Some (part.0, j
 
 abbrev pub value_of : Choice → Told → List ℕ → Option (Place × Told)
 value_of choice before value = value_part choice value >>= told_after before
+
+abbrev pub option_of : Told → List ℕ → Option (Place × Told)
+option_of before word = option_part (choice_of (name_in word)) (value_in word) >>= told_after before
 
 abbrev pub next_of : Place → Told → List ℕ → Option (Place × Told)
 next_of place before word = part_of place word >>= told_after before

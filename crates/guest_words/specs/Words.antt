@@ -3,7 +3,8 @@ use Rattle.std.specs.List.{before_first}
 use Rattle.std.specs.Option.{option_map}
 use Rattle.std.specs.Str.{bytes_eq}
 use Rattle.std.specs.declared.alloc.Global.{Global}
-use Rattle.guest_base.specs.Search.{first_such, any_such}
+use Rattle.guest_base.specs.Requests.{raised_to_power}
+use Rattle.guest_base.specs.Search.{any_such}
 use Rattle.guest_script.specs.Number.{number_of}
 use Rattle.guest_script.specs.Arguments.{bounded}
 use Rattle.guest_words.specs.declared.place.Choice.{Choice}
@@ -110,7 +111,7 @@ areas_in (Some count) = if is_areas count then Some count else None
 
 -- the areas of the pool; where none are told, the number of scripts raised to a power of two (after swiotlb.c)
 abbrev pub areas_of : ℕ → List (List ℕ) → Option ℕ
-areas_of scripts [] = first_such (λ count. is_areas count && nat_le scripts count) 1 64
+areas_of scripts [] = Some (raised_to_power scripts)
 areas_of scripts (value ∷ []) = areas_in (number_of value)
 areas_of scripts (value ∷ other ∷ values) = None
 
@@ -141,7 +142,11 @@ turns_of told = do
   table ← table_of told.table
   if slots == 0 then files_of areas table told.plain else None
 
+-- the words behind `turns`
+abbrev pub turns_by : List (List ℕ) → Option Named
+turns_by words = told_by Open words >>= turns_of
+
 -- what the words name; none exactly where they aren't in the grammar
 abbrev pub named_by : List (List ℕ) → Option Named
 named_by [] = None
-named_by (command ∷ words) = if bytes_eq command (codes "turns") then told_by Open words >>= turns_of else None
+named_by (command ∷ words) = if bytes_eq command (codes "turns") then turns_by words else None

@@ -25,8 +25,10 @@ pub(crate) fn read_slots(value: Option<&str>) -> Option<u32>
 }
 
 /// The areas of the pool of a run with one script. None where the value is no power of two from 1 to 64.
+#[tactic(auto, using(crate::proofs::NumberLemmas::one_area, crate::proofs::NumberLemmas::one_is))]
 pub(crate) fn read_areas(value: Option<&str>) -> Option<u32>
-    ensures { result ≡ areas_of 1 (listed value.entry) }
+    ensures told { result ≡ areas_of 1 (listed value.entry) }
+    ensures power { IfSome result (λ areas. is_areas areas ≡ true) }
 {
     match value {
         None => Some(1),
@@ -34,11 +36,28 @@ pub(crate) fn read_areas(value: Option<&str>) -> Option<u32>
     }
 }
 
+#[tactic(auto, using(crate::proofs::NumberLemmas::areas_small))]
 fn areas_in(count: u64) -> Option<u32>
-    ensures { result ≡ areas_in (Some count) }
+    ensures told { result ≡ areas_in (Some count) }
+    ensures power { IfSome result (λ areas. is_areas areas ≡ true) }
 {
-    match count {
-        1 | 2 | 4 | 8 | 16 | 32 | 64 => Some(count as u32),
-        _ => None,
+    if is_areas(count) {
+        Some(count as u32)
+    } else {
+        None
     }
+}
+
+/// Whether a number is a power of two from 1 to 64.
+#[tactic(auto, using(crate::proofs::NumberLemmas::areas_told))]
+fn is_areas(count: u64) -> bool
+    ensures { result ≡ is_areas count }
+{
+    count == 1
+        || count == 2
+        || count == 4
+        || count == 8
+        || count == 16
+        || count == 32
+        || count == 64
 }

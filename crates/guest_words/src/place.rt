@@ -1,6 +1,7 @@
 //! Where a word stands, and what it is there.
 ghost use Rattle.std.specs.Prelude.{◌≡◌};
-ghost use Rattle.guest_words.specs.Words.{choice_of, begins_with_dash, is_plain};
+ghost use Rattle.guest_words.specs.Words.{choice_of, begins_with_dash, is_plain, name_in, value_in};
+ghost use Rattle.guest_words.specs.Views.{text_in};
 
 /// An option.
 #[derive(Clone, Copy, Debug)]
@@ -47,4 +48,15 @@ pub(crate) fn is_plain(word: &str) -> bool
     ensures { result ≡ is_plain word.now }
 {
     !begins_with_dash(word) || word == "-"
+}
+
+/// A word's text before its first `=`, and what stands behind that; the whole word where it has none.
+pub(crate) fn split_word(word: &str) -> (&str, Option<&str>)
+    ensures name { result.0.now ≡ name_in word.now }
+    ensures value { text_in result.1 ≡ value_in word.now }
+{
+    match word.split_once('=') {
+        Some((name, value)) => (name, Some(value)),
+        None => (word, None),
+    }
 }

@@ -1,0 +1,167 @@
+use super::*;
+use std::alloc::{AllocError, Global};
+use std::test::Fail;
+
+/// The words of a line, parted by blanks.
+fn words_of(alloc: Global, line: &str) -> Result<Vec<String>, AllocError> {
+    let mut words = Vec::new(alloc);
+    for word in line.split_whitespace() {
+        words.push(String::from_str(alloc, word)?)?;
+    }
+    Ok(words)
+}
+
+/// Whether the words of a line are in the grammar.
+fn is_read(alloc: Global, line: &str) -> Result<bool, AllocError> {
+    let words = words_of(alloc, line)?;
+    Ok(read_words(words.as_slice()).is_some())
+}
+
+#[test]
+fn the_three_files(rt: HostRuntime) -> Result<(), Fail> {
+    let words = words_of(rt.alloc(), "turns O --slots 0 A s")?;
+    let names = read_words(words.as_slice()).ok_or("refused")?;
+    assert_eq!(rt; names.order, "O");
+    assert_eq!(rt; names.areas, 1);
+    assert!(rt; names.table.is_none());
+    assert_eq!(rt; names.map, "A");
+    assert_eq!(rt; names.script, "s");
+    Ok(())
+}
+
+#[test]
+fn options_anywhere(rt: HostRuntime) -> Result<(), Fail> {
+    let words = words_of(rt.alloc(), "turns --table=T=1 --areas 4 O --slots 0 A s")?;
+    let names = read_words(words.as_slice()).ok_or("refused")?;
+    assert_eq!(rt; names.order, "O");
+    assert_eq!(rt; names.areas, 4);
+    assert_eq!(rt; names.table.unwrap_or("none"), "T=1");
+    assert_eq!(rt; names.map, "A");
+    assert_eq!(rt; names.script, "s");
+    Ok(())
+}
+
+#[test]
+fn in_both_spellings(rt: HostRuntime) -> Result<(), Fail> {
+    let alloc = rt.alloc();
+    assert!(rt; is_read(alloc, "turns O A s --slots=0")?);
+    assert!(rt; is_read(alloc, "turns --slots 0x0 O A s")?);
+    assert!(rt; is_read(alloc, "turns --slots=000 --areas=0x40 O A s")?);
+    assert!(rt; is_read(alloc, "turns O A --table T s --slots 0")?);
+    Ok(())
+}
+
+#[test]
+fn behind_the_options(rt: HostRuntime) -> Result<(), Fail> {
+    let words = words_of(rt.alloc(), "turns --slots 0 -- O A -s")?;
+    let names = read_words(words.as_slice()).ok_or("refused")?;
+    assert_eq!(rt; names.script, "-s");
+    let words = words_of(rt.alloc(), "turns --slots 0 -- -- --slots -")?;
+    let names = read_words(words.as_slice()).ok_or("refused")?;
+    assert_eq!(rt; names.order, "--");
+    assert_eq!(rt; names.map, "--slots");
+    assert_eq!(rt; names.script, "-");
+    Ok(())
+}
+
+#[test]
+fn a_dash_alone(rt: HostRuntime) -> Result<(), Fail> {
+    let words = words_of(rt.alloc(), "turns O --slots 0 - s")?;
+    let names = read_words(words.as_slice()).ok_or("refused")?;
+    assert_eq!(rt; names.map, "-");
+    Ok(())
+}
+
+#[test]
+fn empty_words(rt: HostRuntime) -> Result<(), Fail> {
+    let alloc = rt.alloc();
+    let mut words = words_of(alloc, "turns --slots=0 A s --table")?;
+    words.push(String::new(alloc))?;
+    words.push(String::new(alloc))?;
+    let names = read_words(words.as_slice()).ok_or("refused")?;
+    assert_eq!(rt; names.order, "A");
+    assert_eq!(rt; names.map, "s");
+    assert_eq!(rt; names.script, "");
+    assert_eq!(rt; names.table.unwrap_or("none"), "");
+    Ok(())
+}
+
+#[test]
+fn an_empty_table(rt: HostRuntime) -> Result<(), Fail> {
+    let words = words_of(rt.alloc(), "turns --table= --slots=0 O A s")?;
+    let names = read_words(words.as_slice()).ok_or("refused")?;
+    assert_eq!(rt; names.table.unwrap_or("none"), "");
+    Ok(())
+}
+
+#[test]
+fn other_slots(rt: HostRuntime) -> Result<(), Fail> {
+    let alloc = rt.alloc();
+    for line in [
+        "turns O A s",
+        "turns O A s --slots 128",
+        "turns O A s --slots 131073",
+        "turns O A s --slots 0 --slots=0",
+        "turns O A s --slots -1",
+        "turns O A s --slots=-1",
+        "turns O A s --slots=",
+        "turns O A s --slots x",
+    ] {
+        assert!(rt; !is_read(alloc, line)?);
+    }
+    Ok(())
+}
+
+#[test]
+fn other_areas(rt: HostRuntime) -> Result<(), Fail> {
+    let alloc = rt.alloc();
+    for line in [
+        "turns O A s --slots 0 --areas 3",
+        "turns O A s --slots 0 --areas 0",
+        "turns O A s --slots 0 --areas 128",
+        "turns O A s --slots 0 --areas=",
+        "turns O A s --slots 0 --areas 1 --areas 1",
+    ] {
+        assert!(rt; !is_read(alloc, line)?);
+    }
+    Ok(())
+}
+
+#[test]
+fn other_options(rt: HostRuntime) -> Result<(), Fail> {
+    let alloc = rt.alloc();
+    for line in [
+        "turns O A s --slots 0 --table -",
+        "turns O A s --slots 0 --table=-x",
+        "turns O A s --slots 0 --table T --table=T",
+        "turns O A s --slots 0 --order",
+        "turns O A s --slots 0 --order=x",
+        "turns O A s --slots 0 -x",
+        "turns O A -s --slots 0",
+        "turns O A s --slots 0 --table",
+        "turns O A s --slots",
+    ] {
+        assert!(rt; !is_read(alloc, line)?);
+    }
+    Ok(())
+}
+
+#[test]
+fn other_words(rt: HostRuntime) -> Result<(), Fail> {
+    let alloc = rt.alloc();
+    for line in [
+        "",
+        "turns",
+        "turns --slots 0",
+        "turns --slots 0 O",
+        "turns --slots 0 O A",
+        "turns --slots 0 O A s s",
+        "turns --slots 0 -- O A s s",
+        "show A",
+        "-- turns --slots 0 O A s",
+        "--slots 0 turns O A s",
+    ] {
+        assert!(rt; !is_read(alloc, line)?);
+    }
+    Ok(())
+}

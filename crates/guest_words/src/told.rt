@@ -1,12 +1,12 @@
 //! What the words tell so far.
-ghost use Rattle.std.specs.Prelude.{◌≡◌};
-ghost use Rattle.guest_words.specs.Words.{nothing, plain_word};
-ghost use Rattle.guest_words.specs.Steps.{told, standing, told_after, value_of, next_of, names_of};
+ghost use Rattle.std.specs.Prelude.{◌≡◌, IfSome, true};
+ghost use Rattle.guest_words.specs.Words.{nothing, plain_word, is_areas};
+ghost use Rattle.guest_words.specs.Steps.{told, standing, told_after, value_of, option_of, next_of, names_of};
 ghost use Rattle.guest_words.specs.Views.{named};
 ghost use Rattle.guest_words.specs.declared.place.Place.TheVariants.{Open as AtOpen};
 
 use crate::numbers::{read_areas, read_slots};
-use crate::place::{Choice, Place, begins_with_dash, choice_of, is_plain};
+use crate::place::{Choice, Place, begins_with_dash, choice_of, is_plain, split_word};
 use crate::words::Names;
 
 /// The plain words, of which there are three at most.
@@ -29,20 +29,7 @@ pub(crate) struct SoFar<'a> {
 }
 
 impl<'a> SoFar<'a> {
-    /// Before the first word.
-    pub(crate) fn new() -> Self
-        ensures place { result.place ≡ AtOpen }
-        ensures told { told result ≡ nothing }
-    {
-        SoFar {
-            place: Place::Open,
-            files: Files::Empty,
-            slots: None,
-            areas: None,
-            table: None,
-        }
-    }
-
+    #[tactic(auto, unfolding(crate::specs::Words::part_of))]
     /// With the next word. None where it may not stand there, or tells too much.
     pub(crate) fn with_word(self, word: &'a str) -> Option<Self>
         ensures { standing result ≡ next_of self.entry.place (told self.entry) word.now }
@@ -55,6 +42,7 @@ impl<'a> SoFar<'a> {
     }
 
     /// With a word where options may stand.
+    #[tactic(auto, unfolding(crate::specs::Words::part_of))]
     fn with_open(self, word: &'a str) -> Option<Self>
         ensures { standing result ≡ next_of AtOpen (told self.entry) word.now }
     {
@@ -64,9 +52,18 @@ impl<'a> SoFar<'a> {
         if is_plain(word) {
             return self.with_plain(Place::Open, word);
         }
-        match word.split_once('=') {
-            Some((name, value)) => self.with_value(choice_of(name)?, value),
-            None => Some(self.at(Place::Value(choice_of(word)?))),
+        self.with_option(word)
+    }
+
+    /// With an option, and its value where that stands behind a `=`. None where the word is no option.
+    fn with_option(self, word: &'a str) -> Option<Self>
+        ensures { standing result ≡ option_of (told self.entry) word.now }
+    {
+        let (name, value) = split_word(word);
+        let choice = choice_of(name)?;
+        match value {
+            None => Some(self.at(Place::Value(choice))),
+            Some(value) => self.with_value(choice, value),
         }
     }
 
@@ -123,7 +120,8 @@ impl<'a> SoFar<'a> {
 
     /// What the words name. None where they end too early, or what they tell isn't of a run.
     pub(crate) fn names(self) -> Option<Names<'a>>
-        ensures { named result ≡ names_of self.entry.place (told self.entry) }
+        ensures named { named result ≡ names_of self.entry.place (told self.entry) }
+        ensures power { IfSome result (λ names. is_areas names.areas ≡ true) }
     {
         if let Place::Value(_) = self.place {
             return None;

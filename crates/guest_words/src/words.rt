@@ -1,9 +1,10 @@
 //! The words of a run.
 ghost use Rattle.std.specs.Prelude.{◌≡◌, true, IfSome};
-ghost use Rattle.guest_words.specs.Words.{bytes_of_words, named_by, is_areas};
+ghost use Rattle.guest_words.specs.Words.{bytes_of_words, named_by, turns_by, is_areas};
 ghost use Rattle.guest_words.specs.Views.{named};
 
-use crate::told::SoFar;
+use crate::place::Place;
+use crate::told::{Files, SoFar};
 
 /// What the words of a run name.
 #[derive(Clone, Copy, Debug)]
@@ -26,22 +27,31 @@ pub struct Names<'a> {
 /// N of `--areas` is a power of two from 1 to 64, and 1 where none is told.
 pub fn read_words(words: &[String]) -> Option<Names<'_>>
     ensures named { named result ≡ named_by (bytes_of_words words.now) }
-    ensures areas { IfSome result (λ names. is_areas names.areas ≡ true) }
+    ensures power { IfSome result (λ names. is_areas names.areas ≡ true) }
 {
-    let [command, words @ ..] = words else {
+    let [command, rest @ ..] = words else {
         return None;
     };
     if command.as_str() != "turns" {
         return None;
     }
-    read_rest(words)?.names()
+    read_turns(rest)
 }
 
-/// What the words behind the command tell.
-fn read_rest<'a>(words: &'a [String]) -> Option<SoFar<'a>> {
-    let mut so_far: SoFar<'a> = SoFar::new();
+/// What the words behind `turns` name.
+fn read_turns(words: &[String]) -> Option<Names<'_>>
+    ensures named { named result ≡ turns_by (bytes_of_words words.now) }
+    ensures power { IfSome result (λ names. is_areas names.areas ≡ true) }
+{
+    let mut so_far = SoFar {
+        place: Place::Open,
+        files: Files::Empty,
+        slots: None,
+        areas: None,
+        table: None,
+    };
     for word in words {
         so_far = so_far.with_word(word.as_str())?;
     }
-    Some(so_far)
+    so_far.names()
 }

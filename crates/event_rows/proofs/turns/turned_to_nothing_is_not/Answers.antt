@@ -1,5 +1,5 @@
 use Rattle.event_rows.proofs.TurnFacts.{nothing-turned}
-use Rattle.event_rows.proofs.turns.nothing_is_not_turned.Goals as goal
+use Rattle.event_rows.proofs.turns.turned_to_nothing_is_not.Goals as goal
 
 pub returns : goal.returns
 returns c = nothing-turned

@@ -1,5 +1,5 @@
 use Rattle.event_rows.proofs.TurnFacts.{second_first-turned}
-use Rattle.event_rows.proofs.turns.second_first_is_not_turned.Goals as goal
+use Rattle.event_rows.proofs.turns.second_first_is_not.Goals as goal
 
 pub returns : goal.returns
 returns c = second_first-turned
