@@ -116,11 +116,15 @@ no-unit : (b c : Bool) → b ≡ false → (b && c) ≡ false
 no-unit false c h = refl
 no-unit true c h = cc
 
+-- a unit's bit, by whether the unit is one of the bitmap's
+abbrev bit-by : Boot → ℕ → Bool → Bool
+bit-by boot unit b = elim b as (λ _. Bool) [ true ↦ any_such (λ page. bit_of boot.bits unit) (unit_first boot unit) (unit_pages boot) | false ↦ false ]
+
 first-bit : (boot : Boot) (unit : ℕ) → 0 < unit_pages boot → bit_after boot [] unit ≡ bit_of boot.bits unit
 unfolding bit_after
 first-bit boot unit some = elim (cases_Bool (nat_lt unit (unit_count boot.bits))) [
-  | inl t ↦ rw t (any-same (bit_of boot.bits unit) (unit_first boot unit) (unit_pages boot) some)
-  | inr f ↦ rw f (sym (no-unit (nat_lt unit (unit_count boot.bits)) _ f))
+  | inl t ↦ ap (bit-by boot unit) t ∙ any-same (bit_of boot.bits unit) (unit_first boot unit) (unit_pages boot) some
+  | inr f ↦ ap (bit-by boot unit) f ∙ sym (no-unit (nat_lt unit (unit_count boot.bits)) _ f)
 ]
 
 -- ---- a boot without its calls
@@ -229,9 +233,9 @@ none-early : (boot : Boot) (runs : List PageRun) → runs ≡ [] → All (λ (pi
 none-early boot runs none k d within = absurd (omega (arith, within, ap (λ (rs : List PageRun). length rs) none))
 
 -- the pieces are early ones; where a table is given there are none
-pub early-each : (map : List Descriptor) (hosts : List HostRun) (table : Option Bits) (slots areas cpus : ℕ) (boot : Boot) (runs : List PageRun) → MapRules map hosts → Uncalled map hosts table slots areas cpus boot → EarlyRunsBy map table runs → All (λ (piece : PageRun). IsEarly boot piece.pages) runs
-early-each map hosts None slots areas cpus boot runs rules plain early = early-stub map hosts slots areas cpus boot runs rules plain (record { pieces = early.pieces; early = early.early; are = early.are })
-early-each map hosts (Some table) slots areas cpus boot runs rules plain early = none-early boot runs (early.are ∙ ap (λ ps. map pending_run ps) early.early)
+pub early-each : (descriptors : List Descriptor) (hosts : List HostRun) (table : Option Bits) (slots areas cpus : ℕ) (boot : Boot) (runs : List PageRun) → MapRules descriptors hosts → Uncalled descriptors hosts table slots areas cpus boot → EarlyRunsBy descriptors table runs → All (λ (piece : PageRun). IsEarly boot piece.pages) runs
+early-each descriptors hosts None slots areas cpus boot runs rules plain early = early-stub descriptors hosts slots areas cpus boot runs rules plain (record { pieces = early.pieces; early = early.early; are = early.are })
+early-each descriptors hosts (Some table) slots areas cpus boot runs rules plain early = none-early boot runs (early.are ∙ ap (λ ps. map pending_run ps) early.early)
 
 -- what is kept before the first call
 pub first-stands : (boot : Boot) (kept : Kept) → IsBooted boot → ((page : ℕ) → state_in kept.table.runs page ≡ state_in boot.ram page) → kept.table.out ≡ [] → BitsOf boot kept.bits → kept.calls.items ≡ [] → StandsAfter boot [] kept
@@ -240,6 +244,7 @@ first-stands boot kept booted states out bits calls = record {
   none_out = out;
   bits = record { same = first-same boot kept.bits bits; set = λ unit. first-set boot kept.bits unit bits ∙ sym (first-bit boot unit booted.some) };
   marks = λ unit page set inside. (let was = sym (first-bit boot unit booted.some) ∙ set in was ∙ sym (ap is_pending (booted.pending unit page was inside)));
+  held = λ unit set. sym (first-bit boot unit booted.some) ∙ set;
   sound = tt;
   calls = calls;
 }
