@@ -5,13 +5,16 @@ use Rattle.std.specs.Option.{option_map, option_or}
 use Rattle.std.specs.List.{All, AllPairs}
 use Rattle.std.proofs.lemmas.Bool.Decides.{nat_tests}
 use Rattle.std.proofs.lemmas.List.{get_or-drop, get_or_default, length-drop, take_more}
-use Rattle.std.proofs.lemmas.List.Elements.{All-push}
+use Rattle.std.proofs.lemmas.List.Elements.{All-nil, All-push}
+use Rattle.std.proofs.lemmas.List.{length-append}
+use Rattle.std.proofs.Math.ListN.{get_or-append}
+use Rattle.std.proofs.Math.Seq.{get_or-append_seam}
 use Rattle.std.proofs.lemmas.List.Quantifiers.{all_pairs_push}
 use Rattle.std.proofs.lemmas.List.Folds.{find-append}
 use Rattle.guest_base.specs.declared.memory.PageState.{PageState}
 use Rattle.guest_base.specs.declared.memory.PageRun.{PageRun}
 use Rattle.event_core.specs.Runs.{run_holds, run_end, state_in, GoesBefore, AreMaximalRuns}
-use Rattle.efi_map.specs.Ram.{EndsBefore}
+use Rattle.efi_map.specs.Ram.{EndsBefore, AreBelow, IsPushed, grown}
 
 -- what was seen, joined: the runs that are done, and the last one, which may still grow
 pub record Joins (seen runs : List PageRun) (last : PageRun) : Type 0 where
@@ -30,15 +33,11 @@ state_one true x = refl
 state_one false x = refl
 
 -- a page's state with one more run
-state_push : (xs : List PageRun) (x : PageRun) (page : ℕ) → state_in (xs ++ x ∷ []) page ≡ option_or (state_in xs page) (cond (run_holds page x) (Some x.state) None)
+pub state_push : (xs : List PageRun) (x : PageRun) (page : ℕ) → state_in (xs ++ x ∷ []) page ≡ option_or (state_in xs page) (cond (run_holds page x) (Some x.state) None)
 state_push xs x page =
     ap (option_map (λ (run : PageRun). run.state)) (find-append (run_holds page) xs (x ∷ []))
     ∙ state_or (find (run_holds page) xs) (find (run_holds page) (x ∷ []))
     ∙ ap (option_or (state_in xs page)) (state_one (run_holds page x) x)
-
--- a run with the pages of the next behind it
-abbrev pub grown : PageRun → PageRun → PageRun
-grown last next = record { pages = record { first = last.pages.first; count = last.pages.count + next.pages.count }; state = last.state }
 
 grown_holds : (last next : PageRun) (page : ℕ) → run_end last ≡ next.pages.first → run_holds page (grown last next) ≡ (run_holds page last || run_holds page next)
 grown_holds last next page meets = grind (arith, nat_tests)
@@ -94,6 +93,56 @@ joins_end seen runs last joins = record {
 
 pub no_runs : AreMaximalRuns (state_in []) []
 no_runs = record { each = λ page. refl; some = λ k d lt. absurd (omega (arith, lt)); rise = λ i j d lt up. absurd (omega (arith, up)) }
+
+-- the last of maximal runs may still grow
+joins_again : (runs : List PageRun) (last : PageRun) → AreMaximalRuns (state_in (runs ++ last ∷ [])) (runs ++ last ∷ []) → Joins (runs ++ last ∷ []) runs last
+joins_again runs last are =
+    let n = length-append runs (last ∷ []) in
+    record {
+      each = λ page. refl;
+      some = λ k d lt. subst (λ (run : PageRun). 0 < run.pages.count) (get_or-append runs (last ∷ []) d k lt) (are.some k d (omega (arith, n, lt)));
+      last_some = subst (λ (run : PageRun). 0 < run.pages.count) (get_or-append_seam runs last [] last) (are.some (length runs) last (omega (arith, n)));
+      rise = λ i j d lt up. subst (λ (run : PageRun). GoesBefore run (get_or runs j d)) (get_or-append runs (last ∷ []) d i (omega arith))
+          (subst (λ (run : PageRun). GoesBefore (get_or (runs ++ last ∷ []) i d) run) (get_or-append runs (last ∷ []) d j up) (are.rise i j d lt (omega (arith, n, up))));
+      before = λ k d lt. subst (λ (run : PageRun). GoesBefore run last) (get_or-append runs (last ∷ []) d k lt)
+          (subst (λ (run : PageRun). GoesBefore (get_or (runs ++ last ∷ []) k d) run) (get_or-append_seam runs last [] d) (are.rise k (length runs) d lt (omega (arith, n))));
+    }
+
+ends_push : (runs : List PageRun) (last : PageRun) (page : ℕ) → AreBelow (run_end last) runs → run_end last ≤ page → AreBelow page (runs ++ last ∷ [])
+ends_push runs last page below le =
+    All-push (λ (run : PageRun). run_end run ≤ page) runs last (λ k d lt. omega (arith, below k d lt, le)) le
+
+pub last_ends : (runs : List PageRun) (last : PageRun) (page : ℕ) → AreBelow page (runs ++ last ∷ []) → run_end last ≤ page
+last_ends runs last page below =
+    subst (λ (run : PageRun). run_end run ≤ page) (get_or-append_seam runs last [] last) (below (length runs) last (omega (arith, length-append runs (last ∷ []))))
+
+before_below : (runs : List PageRun) (last : PageRun) → 0 < last.pages.count → All (λ (run : PageRun). GoesBefore run last) runs → AreBelow (run_end last) runs
+before_below runs last some before = λ k d lt. omega (arith, (before k d lt).ends, some)
+
+pub pushed_first : (next : PageRun) → 0 < next.pages.count → IsPushed [] next (next ∷ [])
+pushed_first next some =
+    record { maximal = joins_end (next ∷ []) [] next (joins_start next some); below = ends_push [] next (run_end next) (All-nil (λ (run : PageRun). run_end run ≤ run_end next)) (omega arith) }
+
+pub pushed_grown : (runs : List PageRun) (last next : PageRun) → run_end last ≡ next.pages.first → last.state ≡ next.state
+    → AreMaximalRuns (state_in (runs ++ last ∷ [])) (runs ++ last ∷ [])
+    → IsPushed (runs ++ last ∷ []) next (runs ++ grown last next ∷ [])
+pushed_grown runs last next meets same are =
+    let joins = joins_again runs last are in
+    let more = joins_grow (runs ++ last ∷ []) runs last next meets same joins in
+    record {
+      maximal = joins_end ((runs ++ last ∷ []) ++ next ∷ []) runs (grown last next) more;
+      below = ends_push runs (grown last next) (run_end next) (before_below runs (grown last next) more.last_some more.before) (omega (arith, meets));
+    }
+
+pub pushed_behind : (runs : List PageRun) (last next : PageRun) → (run_end last ≡ next.pages.first → last.state ≢ next.state) → run_end last ≤ next.pages.first
+    → 0 < next.pages.count → AreMaximalRuns (state_in (runs ++ last ∷ [])) (runs ++ last ∷ [])
+    → IsPushed (runs ++ last ∷ []) next ((runs ++ last ∷ []) ++ next ∷ [])
+pushed_behind runs last next differs ends some are =
+    let more = joins_push (runs ++ last ∷ []) runs last next ends differs some (joins_again runs last are) in
+    record {
+      maximal = joins_end ((runs ++ last ∷ []) ++ next ∷ []) (runs ++ last ∷ []) next more;
+      below = ends_push (runs ++ last ∷ []) next (run_end next) (before_below (runs ++ last ∷ []) next some more.before) (omega arith);
+    }
 
 -- what is known of the runs behind the next one
 pub ahead_at : (first : PageRun) (others : List PageRun) (i : ℕ) (d : PageRun) → i < length others → AllPairs EndsBefore (first ∷ others) → All (EndsBefore (get_or others i d)) (drop (i + 1) others)

@@ -1,11 +1,11 @@
 -- RAM as runs of pages, descriptor by descriptor.
-use Rattle.std.specs.Prelude.{List, ◌/◌, ◌<◌, ◌≤◌, ◌^◌, if◌then◌else◌, map, filter, All}
+use Rattle.std.specs.Prelude.{ℕ, List, [], ◌∷◌, ◌++◌, ◌+◌, ◌/◌, ◌<◌, ◌≤◌, ◌^◌, if◌then◌else◌, map, filter, All}
 use Rattle.std.specs.List.{AllPairs}
 use Rattle.guest_base.specs.declared.memory.PageState.TheVariants.{Pending, Accepted}
 use Rattle.guest_base.specs.declared.memory.PageRun.{PageRun}
 use Rattle.event_core.specs.declared.boot.Descriptor.{Descriptor}
 use Rattle.event_core.specs.Map.{is_ram, is_unaccepted}
-use Rattle.event_core.specs.Runs.{run_end}
+use Rattle.event_core.specs.Runs.{run_end, state_in, AreMaximalRuns}
 
 -- the pages of a descriptor of RAM, and their first state
 abbrev pub run_of : Descriptor → PageRun
@@ -24,3 +24,16 @@ pub record AreOrdered (runs : List PageRun) : Type 0 where
   pub some : All (λ (run : PageRun). 0 < run.pages.count) runs
   pub below : All (λ (run : PageRun). run_end run ≤ 2 ^ 28) runs
   pub rise : AllPairs EndsBefore runs
+
+-- the runs end before a page
+abbrev pub AreBelow : ℕ → List PageRun → Type 0
+AreBelow page runs = All (λ (run : PageRun). run_end run ≤ page) runs
+
+-- a run with the pages of the next behind it
+abbrev pub grown : PageRun → PageRun → PageRun
+grown last next = record { pages = record { first = last.pages.first; count = last.pages.count + next.pages.count }; state = last.state }
+
+-- the maximal runs of the pages of runs and of one more behind them
+pub record IsPushed (old : List PageRun) (next : PageRun) (new : List PageRun) : Type 0 where
+  pub maximal : AreMaximalRuns (state_in (old ++ next ∷ [])) new
+  pub below : AreBelow (run_end next) new

@@ -13,6 +13,7 @@ mod writing;
 
 pub use fault::MapFault;
 pub use map::GuestMap;
+pub use ram::push_run;
 pub use reading::read_map;
 pub use writing::write_map;
 

@@ -1,9 +1,9 @@
 //! The RAM of a map.
-ghost use Rattle.std.specs.Prelude.{◌≡◌, ◌∷◌, [], ◌+◌, ◌≤◌, ◌^◌, IfOk, OnOk, IsTrue, ◌↔◌, map, filter, IsPermutation};
+ghost use Rattle.std.specs.Prelude.{◌≡◌, ◌∷◌, [], ◌+◌, ◌<◌, ◌≤◌, ◌^◌, IfOk, OnOk, IsTrue, ◌↔◌, map, filter, IsPermutation};
 ghost use Rattle.std.specs.List.Sorted.{IsNonDecreasingBy};
 ghost use Rattle.event_core.specs.Map.{MapRules, first_state};
 ghost use Rattle.event_core.specs.Runs.{AreMaximalRuns, state_in, run_end};
-ghost use Rattle.efi_map.specs.Ram.{run_of, ram_of, AreOrdered};
+ghost use Rattle.efi_map.specs.Ram.{run_of, ram_of, AreOrdered, AreBelow, IsPushed, grown};
 
 use crate::descriptors::is_ram;
 use crate::map::GuestMap;
@@ -53,6 +53,42 @@ fn goes_on(last: PageRun, next: PageRun) -> bool
     ensures { IsTrue result ↔ ((run_end last ≡ next.pages.first) × (last.state ≡ next.state)) }
 {
     last.pages.first + last.pages.count == next.pages.first && last.state == next.state
+}
+
+/// Adds a run behind others: it is joined with the last where it goes on with it.
+pub fn push_run(runs: &mut Vec<PageRun>, next: PageRun) -> Result<(), AllocError>
+    requires some { 0 < next.pages.count }
+    requires end { run_end next ≤ 2 ^ 28 }
+    requires below { AreBelow next.pages.first runs.old.items }
+    requires maximal { AreMaximalRuns (state_in runs.old.items) runs.old.items }
+    ensures { OnOk result (IsPushed runs.old.items next runs.new.items) }
+{
+    let Some(last) = runs.pop() else {
+        runs.push(next)?;
+        return Ok(());
+    };
+    if !goes_on(last, next) {
+        runs.push(last)?;
+        runs.push(next)?;
+        return Ok(());
+    }
+    runs.push(grown(last, next))?;
+    Ok(())
+}
+
+/// A run with the pages of the next behind it.
+fn grown(last: PageRun, next: PageRun) -> PageRun
+    requires { run_end last + next.pages.count < 2 ^ 64 }
+    ensures { result ≡ grown last next }
+{
+    let pages = Pages {
+        first: last.pages.first,
+        count: last.pages.count + next.pages.count,
+    };
+    PageRun {
+        pages,
+        state: last.state,
+    }
 }
 
 /// Joins a run and those behind it, wherever one goes on with another.

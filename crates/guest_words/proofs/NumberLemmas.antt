@@ -1,4 +1,4 @@
-use Rattle.std.proofs.Common.{ℕ, suc, ◌+◌, ◌≡◌, ◌≤◌, ◌<◌, ◌^◌, ◌==◌, ◌||◌, Bool, true, false, refl, sym, ◌∙◌, ap, arith, List, [], ◌∷◌, Some, None, Option, inl, inr, nat_le, unwrap_or}
+use Rattle.std.proofs.Common.{ℕ, suc, ◌+◌, ◌≡◌, ◌≤◌, ◌^◌, ◌==◌, ◌||◌, Bool, true, false, refl, sym, ◌∙◌, ap, arith, [], Some, inl, inr, nat_le, unwrap_or}
 use Rattle.std.proofs.lemmas.Bool.{cases_Bool}
 use Rattle.guest_base.specs.Search.{any_such}
 use Rattle.guest_base.proofs.SearchLemmas.{any_such-pass, any_such-fail, any_such-zero, first_such-pass}
@@ -7,8 +7,8 @@ use Rattle.guest_words.specs.Words.{is_areas, areas_of}
 any_step : (test : ℕ → Bool) (from count : ℕ) → any_such test from (suc count) ≡ (test from || any_such test (from + 1) count)
 any_step test from count =
     elim (cases_Bool (test from)) [
-      inl h ↦ any_such-pass test from count h ∙ sym (ap (λ b. b || any_such test (from + 1) count) h)
-    | inr h ↦ any_such-fail test from count h ∙ sym (ap (λ b. b || any_such test (from + 1) count) h)
+      | inl h ↦ any_such-pass test from count h ∙ sym (ap (λ b. b || any_such test (from + 1) count) h)
+      | inr h ↦ any_such-fail test from count h ∙ sym (ap (λ b. b || any_such test (from + 1) count) h)
     ]
 
 -- the powers of two from 1 to 64

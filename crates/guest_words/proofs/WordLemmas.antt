@@ -1,4 +1,4 @@
-use Rattle.std.proofs.Common.{ℕ, ◌≡◌, ◌==◌, Bool, true, false, refl, sym, ◌∙◌, ap, arith, List, [], ◌∷◌, ◌++◌, length, nat_le, Some, None, Option, inl, inr, ◌&&◌, ◌+◌, ◌<◌, ◌≤◌, drop, if◌then◌else◌, String, string_bytes}
+use Rattle.std.proofs.Common.{ℕ, ◌≡◌, ◌==◌, Bool, true, false, refl, sym, ◌∙◌, ap, List, [], ◌∷◌, ◌++◌, length, nat_le, Some, None, Option, inl, inr, ◌&&◌, ◌+◌, ◌<◌, ◌≤◌, drop, if◌then◌else◌, String, string_bytes}
 use Rattle.std.specs.Option.{option_map}
 use Rattle.std.specs.declared.alloc.Global.{Global}
 use Rattle.std.proofs.Math.ListN.{get_or, drop_of_length-le}
@@ -7,7 +7,7 @@ use Rattle.std.proofs.lemmas.List.{append-nil, append_assoc, at_drop_more}
 use Rattle.guest_words.specs.declared.place.Place.{Place}
 use Rattle.guest_words.specs.declared.place.Place.TheVariants.{Open, Value, Ended}
 use Rattle.guest_words.specs.declared.told.SoFar.{SoFar}
-use Rattle.guest_words.specs.Words.{Told, Named, nothing, joined, told_by, part_of, slots_of, areas_of, table_of, files_of, turns_of, turns_by, bytes_of_words, end_at, ◌>>=◌}
+use Rattle.guest_words.specs.Words.{Told, Named, nothing, joined, told_by, part_of, slots_of, areas_of, table_of, files_of, turns_of, turns_by, bytes_of_words, ◌>>=◌}
 use Rattle.guest_words.specs.Steps.{told, standing, is_small, told_after, next_of, names_of}
 
 -- what is named by words of which the first part has told something, and the rest stands at a place
@@ -19,8 +19,11 @@ joined_nothing t = λ i. record { plain = append-nil t.plain i; slots = append-n
 
 pub joined_twice : (a b c : Told) → joined (joined a b) c ≡ joined a (joined b c)
 joined_twice a b c = λ i. record {
-  plain = append_assoc a.plain b.plain c.plain i; slots = append_assoc a.slots b.slots c.slots i;
-  areas = append_assoc a.areas b.areas c.areas i; table = append_assoc a.table b.table c.table i }
+  plain = append_assoc a.plain b.plain c.plain i;
+  slots = append_assoc a.slots b.slots c.slots i;
+  areas = append_assoc a.areas b.areas c.areas i;
+  table = append_assoc a.table b.table c.table i;
+}
 
 -- the words end here
 pub named_at_end : (place : Place) (t : Told) → named_after place t [] ≡ names_of place t
@@ -101,14 +104,16 @@ too_much t more h =
     let plain = t.plain ++ more.plain in
     turns_ends (joined t more) ∙
     elim (cases_Bool (nat_le (length t.slots) 1)) [
-      inr many ↦ ends_slots s a table plain (slots_again t.slots more.slots many)
-    | inl one_slots ↦ elim (cases_Bool (nat_le (length t.areas) 1)) [
-        inr many ↦ ends_areas s a table plain (areas_again t.areas more.areas many)
-      | inl one_areas ↦ elim (cases_Bool (nat_le (length t.table) 1)) [
-          inr many ↦ ends_table s a table plain (table_again t.table more.table many)
-        | inl one_table ↦ ends_plain s a table plain (λ areas name. files_again areas name t.plain more.plain
-            (last_false (nat_le (length t.plain) 3) (nat_le (length t.slots) 1) (nat_le (length t.areas) 1) (nat_le (length t.table) 1) h one_slots one_areas one_table))
-        ] ] ]
+      | inr many ↦ ends_slots s a table plain (slots_again t.slots more.slots many)
+      | inl one_slots ↦ elim (cases_Bool (nat_le (length t.areas) 1)) [
+        | inr many ↦ ends_areas s a table plain (areas_again t.areas more.areas many)
+        | inl one_areas ↦ elim (cases_Bool (nat_le (length t.table) 1)) [
+          | inr many ↦ ends_table s a table plain (table_again t.table more.table many)
+          | inl one_table ↦ ends_plain s a table plain (λ areas name. files_again areas name t.plain more.plain
+              (last_false (nat_le (length t.plain) 3) (nat_le (length t.slots) 1) (nat_le (length t.areas) 1) (nat_le (length t.table) 1) h one_slots one_areas one_table))
+        ]
+      ]
+    ]
 
 -- one word further
 step_small : (t q : Told) (b : Bool) (left : Option Told) → is_small (joined t q) ≡ b →

@@ -1,4 +1,4 @@
-use Rattle.std.specs.Prelude.{ℕ, ◌+◌, ◌&&◌, nat_le, if◌then◌else◌, List, [], ◌∷◌, length, Bool, Option, None, Some}
+use Rattle.std.specs.Prelude.{ℕ, ◌&&◌, nat_le, if◌then◌else◌, List, [], ◌∷◌, length, Bool, Option, None, Some}
 use Rattle.std.specs.Borrow.{Bor}
 use Rattle.guest_words.specs.declared.place.Choice.{Choice}
 use Rattle.guest_words.specs.declared.place.Place.{Place}

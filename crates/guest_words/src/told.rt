@@ -29,8 +29,8 @@ pub(crate) struct SoFar<'a> {
 }
 
 impl<'a> SoFar<'a> {
-    #[tactic(auto, unfolding(crate::specs::Words::part_of))]
     /// With the next word. None where it may not stand there, or tells too much.
+    #[tactic(auto, unfolding(crate::specs::Words::part_of))]
     pub(crate) fn with_word(self, word: &'a str) -> Option<Self>
         ensures { standing result ≡ next_of self.entry.place (told self.entry) word.now }
     {

@@ -7,6 +7,7 @@ use Rattle.std.proofs.lemmas.List.{length_push, length-set}
 use Rattle.std.proofs.lemmas.List.Sums.{sum_by-set}
 use Rattle.guest_base.specs.Ranges.{in_range}
 use Rattle.guest_base.specs.Search.{count_such}
+use Rattle.guest_base.proofs.SearchLemmas.{count_such_same}
 use Rattle.guest_base.specs.declared.memory.Pages.{Pages}
 use Rattle.guest_base.specs.declared.memory.Units.{Units}
 use Rattle.event_core.specs.declared.boot.Boot.{Boot}
@@ -17,7 +18,7 @@ use Rattle.event_core.specs.declared.module_call.ModuleCall.{ModuleCall}
 use Rattle.event_core.specs.Calls.{calls_of}
 use Rattle.event_core.specs.Claims.{Claimed, claim_of, claim_step, units_meet}
 use Rattle.event_core.specs.MemoryRows.{pages_first, pages_count}
-use Rattle.event_core.specs.Units.{unit_pages, units_end, first_run}
+use Rattle.event_core.specs.Units.{bit_after, unit_pages, units_end, first_run}
 use Rattle.page_module.specs.Spans.{Taken}
 use Rattle.page_module.specs.States.{state_in}
 use Rattle.page_module.specs.Tables.{Table, is_out, run_count}
@@ -25,19 +26,20 @@ use Rattle.page_module.specs.declared.ticket.Ticket.{Ticket}
 use Rattle.page_module.proofs.OutLemmas.{is_out-last, is_out-more}
 use Rattle.event_core.specs.Table.{Bits}
 use Rattle.accepting_ranges.specs.Claims.{range_of, MeetsNone}
-use Rattle.memory_core.specs.Bitmaps.{bits_in}
+use Rattle.memory_core.specs.Bitmaps.{bits_in, AreRunsFrom}
 use Rattle.memory_core.specs.Steps.{bare_entry, last_stamp, pages_of}
 use Rattle.memory_core.specs.StandsFor.{StandsFor, HoldsFor, OpenStands, IsIn, kept_by, spans_of, reports_of, pieces_for}
 use Rattle.memory_core.specs.declared.claims.OpenClaim.{OpenClaim}
 use Rattle.memory_core.proofs.ClearLemmas.{nat-cases}
 use Rattle.memory_core.proofs.HoldsLemmas.{open-kept, none-kept, holds-open}
 use Rattle.memory_core.proofs.UnitsLemmas.{first_run-facts, run-counts}
+use Rattle.memory_core.proofs.KeptLemmas.{runs-same}
 use Rattle.memory_core.proofs.StepLemmas.{last-push, claim-mine, claim-other, calls-claimed, same-is, not-same}
 use Rattle.memory_core.proofs.OpenLemmas.{clear-of, apart-of, meets-swap, run-in, runs-few, room-left, kept-same, kept-other}
 
 -- the claim that is kept
-abbrev pub made_claim : Units → Units → Ticket → ℕ → OpenClaim
-made_claim units run ticket room = record { units = units; run = run; cleared = 0; ticket = ticket; room = room }
+abbrev pub made_claim : Units → Units → Vec Units Global → Ticket → ℕ → OpenClaim
+made_claim units run later ticket room = record { units = units; run = run; later = later; opened = 0; cleared = 0; ticket = ticket; room = room }
 
 -- and the one that is open
 abbrev pub opened_claim : Units → Units → List ModuleCall → Claimed
@@ -79,23 +81,23 @@ pub claimed-in : (boot : Boot) (entries : Vec Entry Global) (last : ℕ) (table 
 claimed-in boot entries last table bits ranges claims pages kept room units run s clear first page inside =
     run-in boot (claim_of boot entries.items) (opened_claim units run []) page first.low first.within (others-clear boot entries last table bits ranges claims pages kept room units s clear) inside
 
-pub stands-claimed : (boot : Boot) (entries entries' : Vec Entry Global) (last last' : ℕ) (table table' : Table) (bits : Option Bits) (ranges ranges' : List (Option Units)) (claims claims' : List (Option OpenClaim)) (pages kept kept' room left : ℕ) (turn : Turn) (units run : Units) (asked : Pages) (span : Taken)
+pub stands-claimed : (boot : Boot) (entries entries' : Vec Entry Global) (last last' : ℕ) (table table' : Table) (bits : Option Bits) (ranges ranges' : List (Option Units)) (claims claims' : List (Option OpenClaim)) (pages kept kept' room left : ℕ) (turn : Turn) (units run : Units) (later : Vec Units Global) (asked : Pages) (span : Taken)
     → StandsFor boot entries last table bits ranges claims pages kept room
     → turn.cpu.0 < boot.cpus → claim_of boot entries.items turn.cpu.0 ≡ None → MeetsNone ranges units → FirstRun (bits_in bits) units run → units.first + units.count < 2 ^ 64
-    → count_such (bits_in bits) units.first units.count < room
+    → count_such (bits_in bits) units.first units.count < room → AreRunsFrom (bits_in bits) (units_end run) (units_end units) later.items
     → entries'.items ≡ entries.items ++ bare_entry turn last (Claim None (Some units) (Some run)) ∷ [] → vec_capacity entries ≤ vec_capacity entries'
     → last' ≡ max turn.clock last + 1 → turn.clock < 2 ^ 64 → last < 2 ^ 64
     → asked ≡ pages_of boot run → span.ticket.pages ≡ asked
     → ((page : ℕ) → state_in table'.runs page ≡ cond (in_range asked.first asked.count page) None (state_in table.runs page))
     → table'.out ≡ table.out ++ span.ticket ∷ [] → table.room ≤ span.ticket.room + (2 * run_count (state_in table.runs) asked + 2)
     → ((other : ℕ) → range_of ranges' other ≡ cond (other == turn.cpu.0) (Some units) (range_of ranges other))
-    → left ≡ room - 1 - run.count → claims' ≡ slice_set claims turn.cpu.0 (Some (made_claim units run span.ticket left))
+    → left ≡ room - 1 - run.count → claims' ≡ slice_set claims turn.cpu.0 (Some (made_claim units run later span.ticket left))
     → kept' ≡ kept + (left + 1) → kept' < 2 ^ 64
     → StandsFor boot entries' last' table' bits ranges' claims' pages kept' 0
-stands-claimed boot entries entries' last last' table table' bits ranges ranges' claims claims' pages kept kept' room left turn units run asked span s low free clear first end need is more last_is low_clock low_last asked_is taken rest out given ranges_is left_is claims_is kept_is few =
+stands-claimed boot entries entries' last last' table table' bits ranges ranges' claims claims' pages kept kept' room left turn units run later asked span s low free clear first end need runs_are is more last_is low_clock low_last asked_is taken rest out given ranges_is left_is claims_is kept_is few =
     let cpu = turn.cpu.0 in
     let calls = calls_of boot entries.items in
-    let o = made_claim units run span.ticket left in
+    let o = made_claim units run later span.ticket left in
     let claim = opened_claim units run calls in
     let event = Claim None (Some units) (Some run) in
     let counts = first.counts in
@@ -119,12 +121,13 @@ stands-claimed boot entries entries' last last' table table' bits ranges ranges'
       within = first.within;
       end = end;
       each = first.set;
-      later = λ unit above below. s.holds.bits unit;
+      later = runs-same (bits_in bits) (bit_after boot calls) s.holds.bits (units_end run) (units_end units) later.items runs_are;
+      set = λ unit above below was. s.holds.bits unit ∙ was;
       few = (let under = first.low in omega arith);
       out = (let P : List Ticket → Type 0 = λ ts. is_out ts span.ticket ≡ true in subst P (sym out) (is_out-last table.out span.ticket));
       pages = taken ∙ asked_is;
       room = room-left (unit_pages boot) (room - 1) run.count (run_count (state_in table.runs) asked) left span.ticket.room table.room first.some (omega (arith, counts, need)) left_is runs had given;
-      enough = omega (arith, counts, need, left_is);
+      enough = (let same = count_such_same (bits_in bits) (bit_after boot calls) (units_end run) (units_end units - units_end run) (record { same = λ unit low high. s.holds.bits unit }) in omega (arith, counts, need, left_is, same));
     } in
     let sums = sum_by-set reports_of claims cpu (Some o) None inside in
     let spans = sum_by-set spans_of claims cpu (Some o) None inside in

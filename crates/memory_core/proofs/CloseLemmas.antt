@@ -122,7 +122,7 @@ pub stands-next : (boot : Boot) (entries entries' : Vec Entry Global) (last last
     → entries'.items ≡ entries.items ++ bare_entry turn last (report_event boot claim now) ∷ [] → vec_capacity entries ≤ vec_capacity entries'
     → last' ≡ max turn.clock last + 1 → turn.clock ≤ max (2 ^ 64) last
     → stop_of now ≡ None → next_run boot claim (stop_of now) ≡ Some run → 0 < run.count → run.count ≤ o.room
-    → next ≡ record { units = o.units; run = run; cleared = o.cleared + cleared; ticket = span'.ticket; room = o.room - run.count }
+    → next ≡ record o { run = run; opened = o.opened + 1; cleared = o.cleared + cleared; ticket = span'.ticket; room = o.room - run.count }
     → cleared ≤ claim.run.count → o.ticket.room ≤ table'.room → asked ≡ pages_of boot run → span'.ticket.pages ≡ asked
     → ((page : ℕ) → state_in last_table.runs page ≡ cond (in_range asked.first asked.count page) None (state_in table'.runs page))
     → last_table.out ≡ table'.out ++ span'.ticket ∷ [] → table'.room ≤ span'.ticket.room + (2 * run_count (state_in table'.runs) asked + 2)

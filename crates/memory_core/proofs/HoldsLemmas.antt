@@ -5,7 +5,6 @@ use Rattle.guest_base.specs.declared.memory.Pages.{Pages}
 use Rattle.guest_base.specs.declared.memory.PageRun.{PageRun}
 use Rattle.guest_base.specs.declared.memory.PageState.{PageState}
 use Rattle.guest_base.specs.declared.memory.Units.{Units}
-use Rattle.guest_base.proofs.SearchLemmas.{count_such_same}
 use Rattle.event_core.specs.declared.boot.Boot.{Boot}
 use Rattle.event_core.specs.declared.module_call.ModuleCall.{ModuleCall}
 use Rattle.event_core.specs.Acceptance.{AcceptanceSteps}
@@ -53,9 +52,9 @@ stands-none boot bit tickets k c is_k is_c =
     let Q : Option Claimed → Type 0 = ClaimStands boot bit tickets k in
     subst Q (sym is_c) (subst P (sym is_k) tt)
 
--- a claim stands on where the bits of its units stay and its pages are out still
-open-moves : (boot : Boot) (bit bit' : ℕ → Bool) (tickets tickets' : List Ticket) (o : OpenClaim) (claim : Claimed) → ((unit : ℕ) → claim.units.first ≤ unit → unit < units_end claim.units → bit' unit ≡ bit unit) → is_out tickets' o.ticket ≡ true → OpenStands boot bit tickets o claim → OpenStands boot bit' tickets' o claim
-open-moves boot bit bit' tickets tickets' o claim same still stands =
+-- a claim stands on where the set bits of its units stay set and its pages are out still
+open-moves : (boot : Boot) (bit bit' : ℕ → Bool) (tickets tickets' : List Ticket) (o : OpenClaim) (claim : Claimed) → ((unit : ℕ) → claim.units.first ≤ unit → unit < units_end claim.units → bit unit ≡ true → bit' unit ≡ true) → is_out tickets' o.ticket ≡ true → OpenStands boot bit tickets o claim → OpenStands boot bit' tickets' o claim
+open-moves boot bit bit' tickets tickets' o claim stay still stands =
     let low = stands.low in
     let within = stands.within in
     record {
@@ -66,20 +65,21 @@ open-moves boot bit bit' tickets tickets' o claim same still stands =
       low = stands.low;
       within = stands.within;
       end = stands.end;
-      each = λ unit inside. (let at = in_range-elim claim.run.first claim.run.count unit inside in same unit (omega (arith, low, at.0)) (omega (arith, within, at.1)) ∙ stands.each unit inside);
-      later = λ unit above below. same unit (omega (arith, low, above)) below ∙ stands.later unit above below;
+      each = λ unit inside. (let at = in_range-elim claim.run.first claim.run.count unit inside in stay unit (omega (arith, low, at.0)) (omega (arith, within, at.1)) (stands.each unit inside));
+      later = stands.later;
+      set = λ unit above below was. stay unit (omega (arith, low, above)) below (stands.set unit above below was);
       few = stands.few;
       out = still;
       pages = stands.pages;
       room = stands.room;
-      enough = (let P : ℕ → Type 0 = λ n. n ≤ o.room in subst P (sym (count_such_same bit' bit (units_end claim.run) (units_end claim.units - units_end claim.run) (record { same = λ n l h. same n (omega (arith, low, l)) (omega (arith, within, h)) }))) stands.enough);
+      enough = stands.enough;
     }
 
-pub claim-moves : (boot : Boot) (bit bit' : ℕ → Bool) (tickets tickets' : List Ticket) (k k' : Option OpenClaim) (c c' : Option Claimed) → k' ≡ k → c' ≡ c → ((claim : Claimed) → c ≡ Some claim → (unit : ℕ) → claim.units.first ≤ unit → unit < units_end claim.units → bit' unit ≡ bit unit) → ((o : OpenClaim) → k ≡ Some o → is_out tickets o.ticket ≡ true → is_out tickets' o.ticket ≡ true) → ClaimStands boot bit tickets k c → ClaimStands boot bit' tickets' k' c'
-claim-moves boot bit bit' tickets tickets' None k' None c' is_k is_c same still stands = stands-none boot bit' tickets' k' c' is_k is_c
-claim-moves boot bit bit' tickets tickets' (Some o) k' (Some claim) c' is_k is_c same still stands = stands-open boot bit' tickets' k' c' o claim is_k is_c (open-moves boot bit bit' tickets tickets' o claim (same claim refl) (still o refl stands.out) stands)
-claim-moves boot bit bit' tickets tickets' None k' (Some c) c' is_k is_c same still stands = absurd stands
-claim-moves boot bit bit' tickets tickets' (Some o) k' None c' is_k is_c same still stands = absurd stands
+pub claim-moves : (boot : Boot) (bit bit' : ℕ → Bool) (tickets tickets' : List Ticket) (k k' : Option OpenClaim) (c c' : Option Claimed) → k' ≡ k → c' ≡ c → ((claim : Claimed) → c ≡ Some claim → (unit : ℕ) → claim.units.first ≤ unit → unit < units_end claim.units → bit unit ≡ true → bit' unit ≡ true) → ((o : OpenClaim) → k ≡ Some o → is_out tickets o.ticket ≡ true → is_out tickets' o.ticket ≡ true) → ClaimStands boot bit tickets k c → ClaimStands boot bit' tickets' k' c'
+claim-moves boot bit bit' tickets tickets' None k' None c' is_k is_c stay still stands = stands-none boot bit' tickets' k' c' is_k is_c
+claim-moves boot bit bit' tickets tickets' (Some o) k' (Some claim) c' is_k is_c stay still stands = stands-open boot bit' tickets' k' c' o claim is_k is_c (open-moves boot bit bit' tickets tickets' o claim (stay claim refl) (still o refl stands.out) stands)
+claim-moves boot bit bit' tickets tickets' None k' (Some c) c' is_k is_c stay still stands = absurd stands
+claim-moves boot bit bit' tickets tickets' (Some o) k' None c' is_k is_c stay still stands = absurd stands
 
 -- the functions of two states agree on all other processors
 pub record OthersSame (cpu : ℕ) (claims claims' : ℕ → Option Claimed) (kept kept' : ℕ → Option OpenClaim) : Type 0 where
@@ -116,7 +116,7 @@ holds-open boot calls claims claims' runs runs' tickets tickets' bit kept kept' 
       ]);
   open_claims = λ d. elim (nat-cases d cpu) [
     | inl same ↦ stands-open boot bit tickets' (kept' d) (claims' d) o claim (ap kept' same ∙ now_kept) (ap claims' same ∙ now_claim) opened
-    | inr differ ↦ claim-moves boot bit bit tickets tickets' (kept d) (kept' d) (claims d) (claims' d) (others.keeps d differ) (others.claimed d differ) (λ b is unit low high. refl) (λ k is was. more k.ticket was) (holds.open_claims d)
+    | inr differ ↦ claim-moves boot bit bit tickets tickets' (kept d) (kept' d) (claims d) (claims' d) (others.keeps d differ) (others.claimed d differ) (λ b is unit low high set. set) (λ k is was. more k.ticket was) (holds.open_claims d)
   ];
   apart = λ c d a b differ is_a is_b.
       elim (nat-cases c cpu) [
@@ -200,9 +200,9 @@ holds-close boot calls now claims claims' runs runs' tickets tickets' bit bit' k
         | inl same ↦ stands-none boot bit' tickets' (kept' d) (claims' d) (ap kept' same ∙ unkept) (ap claims' same ∙ gone)
         | inr differ ↦
             claim-moves boot bit bit' tickets tickets' (kept d) (kept' d) (claims d) (claims' d) (others.keeps d differ) (others.claimed d differ)
-            (λ b is unit low high.
+            (λ b is unit low high set.
             let apart = holds.apart d cpu b claim differ is was in
-            returns.clears unit ∙ ap (λ x. cond x (any_such (λ page. is_pending (state_in span.runs page)) (unit_first boot unit) (unit_pages boot)) (bit unit)) (other-unit claim b unit opened.low opened.within apart low high))
+            returns.clears unit ∙ ap (λ x. cond x (any_such (λ page. is_pending (state_in span.runs page)) (unit_first boot unit) (unit_pages boot)) (bit unit)) (other-unit claim b unit opened.low opened.within apart low high) ∙ set)
             (λ k is. still d k differ is) (holds.open_claims d)
       ];
       apart = λ c d a b differ is_a is_b.

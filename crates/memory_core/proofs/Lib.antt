@@ -6,6 +6,7 @@ pub mod CountLemmas
 pub mod BitsLemmas
 pub mod StepLemmas
 pub mod OpenLemmas
+pub mod KeptLemmas
 pub mod BeginLemmas
 pub mod ReportLemmas
 pub mod CloseLemmas

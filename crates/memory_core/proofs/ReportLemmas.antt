@@ -1,9 +1,8 @@
 use Rattle.std.proofs.Common.{◌≡◌, ◌≢◌, ℕ, ◌+◌, ◌-◌, ◌*◌, ◌^◌, ◌<◌, ◌≤◌, Bool, true, false, Option, None, Some, List, [], ◌∷◌, ◌++◌, refl, sym, ◌∙◌, ap, subst, arith, cond}
-use Rattle.std.specs.Prelude.{◌==◌}
+use Rattle.std.specs.Prelude.{◌==◌, drop}
 use Rattle.std.proofs.Math.Nat.{mul-le-mul_right}
 use Rattle.guest_base.specs.Ranges.{in_range}
-use Rattle.guest_base.specs.Search.{any_such, count_such}
-use Rattle.guest_base.proofs.SearchLemmas.{count_such_same}
+use Rattle.guest_base.specs.Search.{any_such}
 use Rattle.guest_base.specs.declared.memory.Page.{Page}
 use Rattle.guest_base.specs.declared.memory.Pages.{Pages}
 use Rattle.guest_base.specs.declared.memory.Units.{Units}
@@ -23,13 +22,14 @@ use Rattle.accept_sizes.specs.Ends.{stopped_at}
 use Rattle.accept_sizes.specs.declared.accept.RunEnd.{RunEnd}
 use Rattle.accept_sizes.specs.declared.accept.RunEnd.TheVariants.{Whole, Stopped}
 use Rattle.memory_core.specs.Booted.{IsBooted}
-use Rattle.memory_core.specs.Bitmaps.{bits_in, SameBits, ClearedIn, next_by}
+use Rattle.memory_core.specs.Bitmaps.{bits_in, SameBits, ClearedIn, AreRunsFrom, next_of}
 use Rattle.memory_core.specs.Steps.{HasStates, pages_of, BringsTo}
 use Rattle.memory_core.specs.StandsFor.{HoldsFor, OpenStands, IsIn, pieces_for}
 use Rattle.memory_core.specs.declared.claims.OpenClaim.{OpenClaim}
+use Rattle.memory_core.proofs.KeptLemmas.{kept-first, kept-rest}
 use Rattle.memory_core.proofs.HoldsLemmas.{open-kept, kept-open, holds-open, holds-close, OthersSame, Returns, one-run, stands-virtual, other-unit, put_back}
 use Rattle.memory_core.proofs.RunLemmas.{run-stands, run-cleared}
-use Rattle.memory_core.proofs.UnitsLemmas.{in_range-elim, in_range-intro, in_range-past, first_run-same, first_run-facts, IsRunIn, runs-apart, run-counts, run-page-some, run-low}
+use Rattle.memory_core.proofs.UnitsLemmas.{in_range-elim, in_range-intro, in_range-past, first_run-facts, IsRunIn, runs-apart, run-counts, run-page-some, run-low}
 use Rattle.memory_core.proofs.BitsLemmas.{cleared-bits, cleared-count}
 use Rattle.memory_core.proofs.StepLemmas.{same-is, not-same}
 use Rattle.memory_core.proofs.OpenLemmas.{run-in, has-states, runs-few, room-left}
@@ -55,14 +55,10 @@ pub not-stopped : (boot : Boot) (claim : Claimed) (stop : Option Page) (run : Un
 not-stopped boot claim None run is = refl
 not-stopped boot claim (Some page) run is = cc
 
--- the kept bits find the next run
-pub next-is : (boot : Boot) (bit : ℕ → Bool) (claim : Claimed) (units run : Units) (end : RunEnd) (stop : Option Page) → units ≡ claim.units → run ≡ claim.run → stop ≡ stopped_at end → ((unit : ℕ) → units_end claim.run ≤ unit → unit < units_end claim.units → bit unit ≡ bit_after boot claim.before unit) → next_by bit units run end ≡ next_run boot claim stop
-next-is boot bit claim units run (Stopped page) stop is_units is_run is later = ap (next_run boot claim) (sym is)
-next-is boot bit claim units run Whole stop is_units is_run is later =
-    ap (λ (u : Units). first_run bit (run.first + run.count) (u.first + u.count)) is_units
-    ∙ ap (λ (r : Units). first_run bit (r.first + r.count) (claim.units.first + claim.units.count)) is_run
-    ∙ first_run-same bit (bit_after boot claim.before) (units_end claim.run) (units_end claim.units) later
-    ∙ ap (next_run boot claim) (sym is)
+-- the kept runs have the next run
+pub next-is : (boot : Boot) (claim : Claimed) (runs : List Units) (opened : ℕ) (end : RunEnd) (stop : Option Page) → stop ≡ stopped_at end → AreRunsFrom (bit_after boot claim.before) (units_end claim.run) (units_end claim.units) (drop opened runs) → next_of runs opened end ≡ next_run boot claim stop
+next-is boot claim runs opened (Stopped page) stop is are = ap (next_run boot claim) (sym is)
+next-is boot claim runs opened Whole stop is are = kept-first (bit_after boot claim.before) (units_end claim.run) (units_end claim.units) runs opened are ∙ ap (next_run boot claim) (sym is)
 
 -- ---- what comes back
 
@@ -129,12 +125,12 @@ module _ (boot : Boot) (calls now : List ModuleCall) (claims : ℕ → Option Cl
       ∙ sym (run-cleared boot calls now claim.run (page_state boot calls) (put_back boot calls claim.run span) (state_in r.brings.taken.runs) (state_in span.runs) (bits_in bits) (bits_in bits')
       (stands-virtual boot calls claims table.runs table.out (bits_in bits) kept r.holds) (one-run boot calls now claim.run r.brings.taken span table.runs table'.runs (bits_in bits) (bits_in bits') opened.each returns))
 
-  -- the bits behind the run are as at the claim
-  pub behind : (unit : ℕ) → units_end claim.run ≤ unit → unit < units_end claim.units → bits_in bits' unit ≡ bit_after boot claim.before unit
-  behind unit above below =
+  -- the bits behind the run that were set at the claim are set still
+  pub behind : (unit : ℕ) → units_end claim.run ≤ unit → unit < units_end claim.units → bit_after boot claim.before unit ≡ true → bits_in bits' unit ≡ true
+  behind unit above below was =
       returns.clears unit
       ∙ ap (λ b. cond b (any_such (λ page. is_pending (state_in span.runs page)) (unit_first boot unit) (unit_pages boot)) (bits_in bits unit)) (in_range-past claim.run.first claim.run.count unit above)
-      ∙ opened.later unit above below
+      ∙ opened.set unit above below was
 
   -- the calls leave the pages of other claims
   pub others-states : (d : ℕ) (b : Claimed) (page : ℕ) → d ≢ cpu → claims d ≡ Some b → in_range (pages_first boot b.run) (pages_count boot b.run) page ≡ true → page_state boot (calls ++ now) page ≡ page_state boot calls page
@@ -181,8 +177,20 @@ module _ (boot : Boot) (calls now : List ModuleCall) (claims : ℕ → Option Cl
   left-is d b is = sym (left-others.claimed d (left-differs d b is)) ∙ is
 
   -- where the next run of the claim lies
+  next-was : (run : Units) → next_run boot claim None ≡ Some run → IsRunIn (bit_after boot claim.before) (units_end claim.run) (units_end claim.units) run
+  next-was run is = first_run-facts (bit_after boot claim.before) (units_end claim.run) (units_end claim.units) run is
+
   pub next-facts : (run : Units) → next_run boot claim None ≡ Some run → IsRunIn (bits_in bits') (units_end claim.run) (units_end claim.units) run
-  next-facts run is = first_run-facts (bits_in bits') (units_end claim.run) (units_end claim.units) run (first_run-same (bits_in bits') (bit_after boot claim.before) (units_end claim.run) (units_end claim.units) behind ∙ is)
+  next-facts run is =
+      let was = next-was run is in
+      let low = was.low in
+      let high = was.high in
+      record {
+        low = was.low;
+        some = was.some;
+        high = was.high;
+        set = λ unit inside. (let at = in_range-elim run.first run.count unit inside in behind unit (omega (arith, low, at.0)) (omega (arith, high, at.1)) (was.set unit inside));
+      }
 
   left-clear : (d : ℕ) (b : Claimed) → claims_left d ≡ Some b → (b.units.first ≤ b.run.first) × (units_end b.run ≤ units_end b.units) × (units_meet claim.units b.units ≡ false)
   left-clear d b is =
@@ -192,15 +200,10 @@ module _ (boot : Boot) (calls now : List ModuleCall) (claims : ℕ → Option Cl
   -- there is room for it
   pub next-few : (run : Units) → next_run boot claim None ≡ Some run → (0 < run.count) × (run.count ≤ o.room)
   next-few run is =
-      let facts = next-facts run is in
-      let mine = opened in
-      let count = run-counts (bits_in bits') (units_end claim.run) (units_end claim.units) run facts in
-      let P : ℕ → Type 0 = λ n. n ≤ o.room in
-      let behind_now = subst P
-      (sym (count_such_same (bits_in bits') (bits_in bits) (units_end claim.run) (units_end claim.units - units_end claim.run)
-      (record { same = λ n l h. (let within = mine.within in behind n l (omega (arith, h, within)) ∙ sym (mine.later n l (omega (arith, h, within)))) })))
-      mine.enough in
-      (facts.some, omega (arith, count, behind_now))
+      let was = next-was run is in
+      let count = run-counts (bit_after boot claim.before) (units_end claim.run) (units_end claim.units) run was in
+      let enough = opened.enough in
+      (was.some, omega (arith, count, enough))
 
   -- its pages are in
   pub next-in : (run : Units) → next_run boot claim None ≡ Some run → (page : ℕ) → in_range (pages_first boot run) (pages_count boot run) page ≡ true → IsIn boot claims_left page
@@ -231,7 +234,7 @@ module _ (boot : Boot) (calls now : List ModuleCall) (claims : ℕ → Option Cl
   -- the next run of the claim is opened
   pub went-on : (claims' : ℕ → Option Claimed) (kept' : ℕ → Option OpenClaim) (last_table : Table) (run : Units) (asked : Pages) (span' : Taken) (next : OpenClaim) → OthersSame cpu claims claims' kept kept'
       → claims' cpu ≡ Some (next_claim boot calls now claim run) → kept' cpu ≡ Some next
-      → next ≡ record { units = o.units; run = run; cleared = o.cleared + cleared; ticket = span'.ticket; room = o.room - run.count }
+      → next ≡ record o { run = run; opened = o.opened + 1; cleared = o.cleared + cleared; ticket = span'.ticket; room = o.room - run.count }
       → cleared ≤ claim.run.count → next_run boot claim None ≡ Some run
       → o.ticket.room ≤ table'.room → asked ≡ pages_of boot run → span'.ticket.pages ≡ asked
       → ((page : ℕ) → state_in last_table.runs page ≡ cond (in_range asked.first asked.count page) None (state_in table'.runs page))
@@ -241,19 +244,14 @@ module _ (boot : Boot) (calls now : List ModuleCall) (claims : ℕ → Option Cl
       let mine = opened in
       let facts = next-facts run is_next in
       let claim' = next_claim boot calls now claim run in
-      let count = run-counts (bits_in bits') (units_end claim.run) (units_end claim.units) run facts in
-      let behind_now : count_such (bits_in bits') (units_end claim.run) (units_end claim.units - units_end claim.run) ≤ o.room =
-      (let P : ℕ → Type 0 = λ n. n ≤ o.room in
-      subst P
-      (sym (count_such_same (bits_in bits') (bits_in bits) (units_end claim.run) (units_end claim.units - units_end claim.run)
-      (record { same = λ n l h. (let within = mine.within in behind n l (omega (arith, h, within)) ∙ sym (mine.later n l (omega (arith, h, within)))) })))
-      mine.enough) in
+      let count = run-counts (bit_after boot claim.before) (units_end claim.run) (units_end claim.units) run (next-was run is_next) in
+      let enough = mine.enough in
       let low = facts.low in
       let first = mine.low in
       let was = mine.few in
       let pieces : pieces_for (unit_pages boot) o.room ≤ table'.room = (let p = mine.room in omega (arith, p, has)) in
       let runs = runs-few boot run table'.runs asked asked_is in
-      let made : OpenClaim = record { units = o.units; run = run; cleared = o.cleared + cleared; ticket = span'.ticket; room = o.room - run.count } in
+      let made : OpenClaim = record o { run = run; opened = o.opened + 1; cleared = o.cleared + cleared; ticket = span'.ticket; room = o.room - run.count } in
       let now_open : OpenStands boot (bits_in bits') last_table.out made claim' = record {
         units = mine.units;
         run = refl;
@@ -263,12 +261,13 @@ module _ (boot : Boot) (calls now : List ModuleCall) (claims : ℕ → Option Cl
         within = facts.high;
         end = mine.end;
         each = facts.set;
-        later = λ unit above below. behind unit (omega (arith, low, above)) below;
+        later = kept-rest (bit_after boot claim.before) (units_end claim.run) (units_end claim.units) o.later.items o.opened run mine.later (kept-first (bit_after boot claim.before) (units_end claim.run) (units_end claim.units) o.later.items o.opened mine.later ∙ is_next);
+        set = λ unit above below was_set. behind unit (omega (arith, low, above)) below was_set;
         few = (let sum = counted in omega (arith, low, was, few, sum));
         out = (let P : List Ticket → Type 0 = λ ts. is_out ts span'.ticket ≡ true in subst P (sym out) (is_out-last table'.out span'.ticket));
         pages = taken ∙ asked_is;
-        room = room-left (unit_pages boot) o.room run.count (run_count (state_in table'.runs) asked) (o.room - run.count) span'.ticket.room table'.room facts.some (omega (arith, count, behind_now)) refl runs pieces given;
-        enough = omega (arith, count, behind_now);
+        room = room-left (unit_pages boot) o.room run.count (run_count (state_in table'.runs) asked) (o.room - run.count) span'.ticket.room table'.room facts.some (omega (arith, count, enough)) refl runs pieces given;
+        enough = omega (arith, count, enough);
       } in
       let same_others : OthersSame cpu claims_left claims' kept_left kept' = record {
         claimed = λ d differ. others.claimed d differ ∙ sym (left-others.claimed d differ);

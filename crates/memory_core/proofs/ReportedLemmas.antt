@@ -23,7 +23,7 @@ use Rattle.accept_sizes.specs.Ends.{stopped_at}
 use Rattle.accept_sizes.specs.declared.accept.RunEnd.{RunEnd}
 use Rattle.accept_sizes.specs.declared.accept.RunEnd.TheVariants.{Whole, Stopped}
 use Rattle.memory_core.specs.Answers.{ReportedBy, OthersKeep, answer_at}
-use Rattle.memory_core.specs.Bitmaps.{bits_in, SameBits, ClearedIn, next_by}
+use Rattle.memory_core.specs.Bitmaps.{bits_in, SameBits, ClearedIn, next_of}
 use Rattle.memory_core.specs.Value.{MemoryValue, Handed, handed_to}
 use Rattle.memory_core.specs.Steps.{BringsTo}
 use Rattle.memory_core.specs.StandsFor.{HoldsFor, kept_by, handed_for, reports_of}
@@ -32,7 +32,7 @@ use Rattle.memory_core.proofs.BegunLemmas.{seen}
 use Rattle.memory_core.proofs.CloseLemmas.{ReportsIn}
 use Rattle.memory_core.proofs.HoldsLemmas.{kept-open}
 use Rattle.memory_core.proofs.OpenLemmas.{handed-is, kept-other, item-inside}
-use Rattle.memory_core.proofs.ReportLemmas.{opened, behind, counted, others-states, next-is}
+use Rattle.memory_core.proofs.ReportLemmas.{opened, counted, others-states, next-is}
 
 pub same-claim : (found : Option Claimed) (a b : Claimed) → found ≡ Some a → found ≡ Some b → a ≡ b
 same-claim found a b is_a is_b = let two : Some a ≡ Some b = sym is_a ∙ is_b in cc
@@ -76,15 +76,14 @@ kept-covers claims cpu kept o is keeps =
     omega (arith, sums, was, is)
 
 module _ (boot : Boot) (entries : List Entry) (now : List ModuleCall) (table table' : Table) (bits bits' : Option Bits) (claims : List (Option OpenClaim)) (cpu : ℕ) (o : OpenClaim) (claim : Claimed) (span : Taken) (end : RunEnd) (cleared : ℕ) (r : ReportsIn boot entries now table table' bits bits' claims cpu o claim span end cleared) where
-  -- the kept bits find the definition's next run
-  pub next-found : next_by (bits_in bits') o.units o.run end ≡ next_run boot claim (stop_of now)
+  -- the kept runs have the definition's next run
+  pub next-found : next_of o.later.items o.opened end ≡ next_run boot claim (stop_of now)
   next-found =
       let mine = opened boot (calls_of boot entries) now (claim_of boot entries) table table' bits bits' (kept_by claims) cpu o claim span end cleared r in
-      next-is boot (bits_in bits') claim o.units o.run end (stop_of now) mine.units mine.run r.brings.stop
-      (behind boot (calls_of boot entries) now (claim_of boot entries) table table' bits bits' (kept_by claims) cpu o claim span end cleared r)
+      next-is boot claim o.later.items o.opened end (stop_of now) r.brings.stop mine.later
 
   -- the event is the definition's
-  pub event-is : (next : Option Units) → next ≡ next_by (bits_in bits') o.units o.run end → Report o.run now (stopped_at end) next ≡ report_event boot claim now
+  pub event-is : (next : Option Units) → next ≡ next_of o.later.items o.opened end → Report o.run now (stopped_at end) next ≡ report_event boot claim now
   event-is next is =
       let mine = opened boot (calls_of boot entries) now (claim_of boot entries) table table' bits bits' (kept_by claims) cpu o claim span end cleared r in
       ap (λ u. Report u now (stopped_at end) next) mine.run ∙ ap (λ p. Report claim.run now p next) (sym r.brings.stop) ∙ ap (Report claim.run now (stop_of now)) (is ∙ next-found)

@@ -1,11 +1,11 @@
-use Rattle.std.specs.Prelude.{ℕ, List, [], Option, None, Some, Bool, false, ◌≡◌, ◌+◌, ◌*◌, ◌/◌, ◌^◌, ◌<◌, length, not, ◌&&◌, if◌then◌else◌}
+use Rattle.std.specs.Prelude.{ℕ, List, [], ◌∷◌, Option, None, Some, Bool, false, ◌≡◌, ◌+◌, ◌*◌, ◌/◌, ◌^◌, ◌<◌, length, slice_get, not, ◌&&◌, if◌then◌else◌}
 use Rattle.guest_base.specs.Ranges.{in_range}
 use Rattle.guest_base.specs.Search.{any_such, count_such}
 use Rattle.guest_base.specs.declared.memory.Pages.{Pages}
 use Rattle.guest_base.specs.declared.memory.Units.{Units}
 use Rattle.event_core.specs.declared.boot.Boot.{Boot}
 use Rattle.event_core.specs.declared.module_call.ModuleCall.{ModuleCall}
-use Rattle.event_core.specs.Units.{bit_of, bit_after, first_run}
+use Rattle.event_core.specs.Units.{bit_of, bit_after, first_run, units_end}
 use Rattle.accepting_ranges.specs.Claims.{MeetsNone, IsFirstToMeet}
 use Rattle.accept_sizes.specs.declared.accept.RunEnd.{RunEnd}
 use Rattle.accept_sizes.specs.declared.accept.RunEnd.TheVariants.{Whole, Stopped}
@@ -84,7 +84,12 @@ abbrev pub IsFirstMet : List (Option Units) → Option Units → Units → Type 
 IsFirstMet ranges None met = ⊥
 IsFirstMet ranges (Some units) met = IsFirstToMeet ranges units met
 
--- the run behind another one, where its acceptance didn't stop
-abbrev pub next_by : (ℕ → Bool) → Units → Units → RunEnd → Option Units
-next_by test units run Whole = first_run test (run.first + run.count) (units.first + units.count)
-next_by test units run (Stopped page) = None
+-- the maximal runs of numbers that pass a test, from one on and below `end`, rising
+abbrev pub AreRunsFrom : (ℕ → Bool) → ℕ → ℕ → List Units → Type 0
+AreRunsFrom test from end [] = first_run test from end ≡ None
+AreRunsFrom test from end (run ∷ runs) = (first_run test from end ≡ Some run) × AreRunsFrom test (units_end run) end runs
+
+-- the run behind so many of a list, where the acceptance before it didn't stop
+abbrev pub next_of : List Units → ℕ → RunEnd → Option Units
+next_of runs opened Whole = slice_get runs opened
+next_of runs opened (Stopped page) = None

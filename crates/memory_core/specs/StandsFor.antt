@@ -1,4 +1,4 @@
-use Rattle.std.specs.Prelude.{ℕ, List, Option, None, Some, Bool, true, false, ◌≡◌, ◌≢◌, ◌+◌, ◌-◌, ◌*◌, ◌^◌, ◌<◌, ◌≤◌, length, max, sum_by, slice_index_or, Vec, vec_capacity}
+use Rattle.std.specs.Prelude.{ℕ, List, [], Option, None, Some, Bool, true, false, ◌≡◌, ◌≢◌, ◌+◌, ◌-◌, ◌*◌, ◌^◌, ◌<◌, ◌≤◌, drop, length, max, sum_by, slice_index_or, Vec, vec_capacity}
 use Rattle.std.specs.Option.{option_map}
 use Rattle.std.specs.declared.alloc.Global.{Global}
 use Rattle.guest_base.specs.Ranges.{in_range}
@@ -17,7 +17,7 @@ use Rattle.page_module.specs.Tables.{Table, is_out}
 use Rattle.page_module.specs.declared.ticket.Ticket.{Ticket}
 use Rattle.event_core.specs.Table.{Bits}
 use Rattle.accepting_ranges.specs.Claims.{range_of}
-use Rattle.memory_core.specs.Bitmaps.{bits_in, SameBits}
+use Rattle.memory_core.specs.Bitmaps.{bits_in, AreRunsFrom, SameBits}
 use Rattle.memory_core.specs.Booted.{IsBooted, MarksArePending, UnitsAreRam}
 use Rattle.memory_core.specs.Steps.{last_stamp, pages_of}
 use Rattle.memory_core.specs.Value.{Handed}
@@ -34,8 +34,8 @@ abbrev pub IsIn : Boot → (ℕ → Option Claimed) → ℕ → Type 0
 IsIn boot claims page =
     (cpu : ℕ) (claim : Claimed) → claims cpu ≡ Some claim → in_range (pages_first boot claim.run) (pages_count boot claim.run) page ≡ false
 
--- An open claim as it is kept. The bits of its run are set; those behind the run are as at the claim, and there is room for as many
--- units as have their bits set there. The run's pages are out.
+-- An open claim as it is kept. The bits of its run are set. The runs that are kept behind it are those of the claim's units at the
+-- claim; the bits of these are set still, and there is room for as many units as they have. The run's pages are out.
 pub record OpenStands (boot : Boot) (bit : ℕ → Bool) (tickets : List Ticket) (kept : OpenClaim) (claim : Claimed) : Type 0 where
   pub units : kept.units ≡ claim.units
   pub run : kept.run ≡ claim.run
@@ -45,12 +45,13 @@ pub record OpenStands (boot : Boot) (bit : ℕ → Bool) (tickets : List Ticket)
   pub within : units_end claim.run ≤ units_end claim.units
   pub end : units_end claim.units < 2 ^ 64
   pub each : (unit : ℕ) → in_range claim.run.first claim.run.count unit ≡ true → bit unit ≡ true
-  pub later : (unit : ℕ) → units_end claim.run ≤ unit → unit < units_end claim.units → bit unit ≡ bit_after boot claim.before unit
+  pub later : AreRunsFrom (bit_after boot claim.before) (units_end claim.run) (units_end claim.units) (drop kept.opened kept.later.items)
+  pub set : (unit : ℕ) → units_end claim.run ≤ unit → unit < units_end claim.units → bit_after boot claim.before unit ≡ true → bit unit ≡ true
   pub few : claim.cleared + claim.units.first ≤ claim.run.first
   pub out : is_out tickets kept.ticket ≡ true
   pub pages : kept.ticket.pages ≡ pages_of boot claim.run
   pub room : pieces_for (unit_pages boot) kept.room ≤ kept.ticket.room
-  pub enough : count_such bit (units_end claim.run) (units_end claim.units - units_end claim.run) ≤ kept.room
+  pub enough : count_such (bit_after boot claim.before) (units_end claim.run) (units_end claim.units - units_end claim.run) ≤ kept.room
 
 -- a claim is kept exactly where it is open
 abbrev pub ClaimStands : Boot → (ℕ → Bool) → List Ticket → Option OpenClaim → Option Claimed → Type 0
@@ -97,6 +98,11 @@ pub record StandsFor (boot : Boot) (entries : Vec Entry Global) (last : ℕ) (ta
   pub entry_room : length entries.items + kept + room ≤ vec_capacity entries
   pub table_room : pieces_for pages room ≤ table.room
   pub stamps : max (2 ^ 64) last + kept < 2 ^ 65
+
+-- the spare list of runs is empty, and has room for those of the next claim
+pub record IsSpare (runs : Vec Units Global) (room : ℕ) : Type 0 where
+  pub empty : runs.items ≡ []
+  pub enough : room ≤ vec_capacity runs
 
 -- what is out with a processor, of the claim that is kept for it
 abbrev pub handed_for : Option OpenClaim → Option Handed

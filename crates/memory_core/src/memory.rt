@@ -18,12 +18,12 @@ ghost use Rattle.memory_core.specs.Bitmaps.{BitsAfter};
 ghost use Rattle.memory_core.specs.Value.{handed_to};
 ghost use Rattle.memory_core.specs.Steps.{last_stamp, unaccepted_count, Appends, BringsTo};
 
-use crate::claims::{OpenClaim, open_claim, push_none, set_claim};
+use crate::claims::{OpenClaim, next_run_of, push_none, set_claim, take_claim, with_next};
 use crate::entries::append;
 use crate::pages::{clear_run, run_pages, stopped_page};
 use crate::units::{
-    both_of, count_unaccepted, first_run_of, guarded_units_of, has_unaccepted, next_run_of,
-    overlap_of, run_from,
+    both_of, count_unaccepted, first_run_of, guarded_units_of, has_unaccepted, overlap_of,
+    run_from, runs_behind,
 };
 use accept_sizes::RunEnd;
 use accepting_ranges::Accepting;
@@ -32,6 +32,7 @@ use guest_base::{CpuNo, Items, Unit, Units};
 use page_module::{PageTable, Span};
 use std::alloc::{AllocError, Global};
 use std::marker::Model;
+use std::mem;
 use std::snapshot::Snapshot;
 use unaccepted_bitmap::Bitmap;
 
@@ -64,6 +65,7 @@ pub enum Reported {
 /// next step, which is one more than the units that it may accept.
 #[derive(Drop)]
 pub struct Memory {
+    alloc: Global,
     boot: Snapshot<Boot>,
     table: PageTable,
     /// None where the map has no unaccepted descriptor.
@@ -71,6 +73,8 @@ pub struct Memory {
     accepting: Accepting,
     /// The open claims, by processor.
     claims: Vec<Option<OpenClaim>>,
+    /// The list for the runs of the next claim; empty.
+    spare: Vec<Units>,
     entries: Vec<Entry>,
     /// The stamp of the last entry.
     last: u128,
@@ -87,11 +91,11 @@ impl Model for Memory {
 
     ghost Value = { MemoryValue };
 
-    ghost use Rattle.memory_core.specs.StandsFor.{handed_for, StandsFor};
+    ghost use Rattle.memory_core.specs.StandsFor.{handed_for, IsSpare, StandsFor};
 
     ghost view = { λ m. record { boot = m.boot.value; entries = m.entries.items; out = map handed_for m.claims.items; room = m.room } };
 
-    ghost invariant = { λ m. StandsFor m.boot.value m.entries m.last m.table m.bits m.accepting m.claims.items m.unit_pages m.kept m.room };
+    ghost invariant = { λ m. StandsFor m.boot.value m.entries m.last m.table m.bits m.accepting m.claims.items m.unit_pages m.kept m.room × IsSpare m.spare m.room };
 }
 
 impl Memory {
@@ -122,11 +126,13 @@ impl Memory {
             push_none(&mut claims);
         }
         Ok(Memory {
+            alloc,
             boot: Snapshot::of(boot),
             table,
             bits,
             accepting: Accepting::new(),
             claims,
+            spare: Vec::new(alloc),
             entries: Vec::new(alloc),
             last: 0,
             unit_pages: boot.unit / 4096,
@@ -162,6 +168,7 @@ impl Memory {
             let room = units.checked_add(1).ok_or(AllocError)?;
             let places = self.kept.checked_add(room).ok_or(AllocError)?;
             self.entries.reserve(places as usize)?;
+            self.spare.reserve(room as usize)?;
             let pieces = room.checked_mul(2 * self.unit_pages + 2).ok_or(AllocError)?;
             self.table.reserve(alloc, pieces)?;
             self.room = room;
@@ -242,17 +249,20 @@ impl Memory {
         match both_of(units, run) {
             Some((units, run)) => {
                 let span = self.table.take(run_pages(&self.bits, run));
+                runs_behind(&self.bits, units, run, &mut self.spare);
                 let claim = OpenClaim {
                     units,
                     run,
+                    later: mem::replace(&mut self.spare, Vec::new(self.alloc)),
+                    opened: 0,
                     cleared: 0,
                     ticket: span.ticket(),
                     room: self.room - 1 - run.count,
                 };
                 self.accepting.add(turn.cpu, units);
-                set_claim(&mut self.claims, turn.cpu, Some(claim));
                 self.kept += claim.room + 1;
                 self.room = 0;
+                set_claim(&mut self.claims, turn.cpu, Some(claim));
                 Begin::Claimed(span)
             }
             None => {
@@ -277,10 +287,10 @@ impl Memory {
             → Appends self.old self.new turn.old turn.new (report_event self.old.boot claim calls) }
         ensures others { OthersKeep self.old self.new turn.old.cpu.0 }
     {
-        let claim = open_claim(&self.claims, turn.cpu);
+        let claim = take_claim(&mut self.claims, turn.cpu);
         let cleared = claim.cleared + clear_run(&mut self.bits, &span, claim.run);
         self.table.put(span);
-        let next = next_run_of(&self.bits, claim.units, claim.run, end);
+        let next = next_run_of(&claim, end);
         let event = Event::Report {
             run: claim.run,
             calls,
@@ -291,21 +301,14 @@ impl Memory {
         match next {
             Some(run) => {
                 let span = self.table.take(run_pages(&self.bits, run));
-                let open = OpenClaim {
-                    units: claim.units,
-                    run,
-                    cleared,
-                    ticket: span.ticket(),
-                    room: claim.room - run.count,
-                };
-                set_claim(&mut self.claims, turn.cpu, Some(open));
+                let claim = with_next(claim, run, cleared, span.ticket());
+                set_claim(&mut self.claims, turn.cpu, Some(claim));
                 self.kept -= run.count;
                 self.room = 0;
                 Reported::Next(span)
             }
             None => {
                 self.accepting.remove(turn.cpu);
-                set_claim(&mut self.claims, turn.cpu, None);
                 self.kept -= claim.room + 1;
                 closed_by(end, cleared)
             }
@@ -343,11 +346,13 @@ impl Memory {
         ensures states { NoneOpen self → (page : ℕ) → state_in result.0.runs page ≡ page_state self.boot (calls_of self.boot self.entries) page }
     {
         let Memory {
+            alloc: _,
             boot: _,
             table,
             bits: _,
             accepting: _,
             claims: _,
+            spare: _,
             entries,
             last: _,
             unit_pages: _,

@@ -1,13 +1,12 @@
 //! Units of the kept bitmap.
-ghost use Rattle.std.specs.Prelude.{◌≡◌, ℕ, ◌+◌, ◌^◌, ◌<◌, ◌≤◌, None, Some, Option, IfSome};
+ghost use Rattle.std.specs.Prelude.{◌≡◌, ℕ, [], ◌+◌, ◌-◌, ◌^◌, ◌<◌, ◌≤◌, None, Some, Option, IfSome, vec_capacity};
 ghost use Rattle.std.specs.Option.{ForSome, option_and_then};
 ghost use Rattle.guest_base.specs.Search.{count_such};
 ghost use Rattle.guest_base.specs.declared.memory.Units.{Units};
 ghost use Rattle.event_core.specs.Units.{first_run};
 ghost use Rattle.accepting_ranges.specs.Claims.{range_of, MeetsNone, IsFirstToMeet};
-ghost use Rattle.memory_core.specs.Bitmaps.{bits_in, guarded_by, both_or_none, any_in, MeetsNoneOf, IsFirstMet, next_by};
+ghost use Rattle.memory_core.specs.Bitmaps.{bits_in, guarded_by, both_or_none, any_in, MeetsNoneOf, IsFirstMet, AreRunsFrom};
 
-use accept_sizes::RunEnd;
 use accepting_ranges::Accepting;
 use guest_base::{Unit, Units};
 use unaccepted_bitmap::Bitmap;
@@ -79,20 +78,19 @@ pub(crate) fn overlap_of(accepting: &Accepting, units: Option<Units>) -> Option<
     }
 }
 
-/// The run behind another one, where the acceptance of that one didn't stop.
-pub(crate) fn next_run_of(
-    bits: &Option<Bitmap>,
-    units: Units,
-    run: Units,
-    end: RunEnd,
-) -> Option<Units>
+/// Writes the maximal runs of unaccepted units behind a run of units into an empty list that has room for as many.
+pub(crate) fn runs_behind(bits: &Option<Bitmap>, units: Units, run: Units, runs: &mut Vec<Units>)
     requires units { units.first + units.count < 2 ^ 64 }
-    requires run { run.first + run.count < 2 ^ 64 }
-    ensures { result ≡ next_by (bits_in bits.now) units run end }
+    requires run { run.first + run.count ≤ units.first + units.count }
+    requires empty { runs.old.items ≡ [] }
+    requires room { count_such (bits_in bits.now) (run.first + run.count) (units.first + units.count - (run.first + run.count)) ≤ vec_capacity runs.old }
+    ensures { AreRunsFrom (bits_in bits.now) (run.first + run.count) (units.first + units.count) runs.new.items }
 {
-    match end {
-        RunEnd::Whole => run_from(bits, run.first + run.count, units.first + units.count),
-        RunEnd::Stopped(_) => None,
+    let end = units.first + units.count;
+    let mut at = run.first + run.count;
+    while let Some(next) = run_from(bits, at, end) {
+        runs.push_reserved(next);
+        at = next.first + next.count;
     }
 }
 

@@ -4,3 +4,5 @@ pub mod RunLemmas
 pub mod GuardLemmas
 pub mod StubLemmas
 pub mod TableLemmas
+pub mod CutLemmas
+pub mod FitLemmas

@@ -137,7 +137,7 @@ stub_frame ds base bytes some each least size =
       size = omega arith;
     }
 
-in_range_is : (first count n : ℕ) → first ≤ n → n < first + count → in_range first count n ≡ true
+pub in_range_is : (first count n : ℕ) → first ≤ n → n < first + count → in_range first count n ≡ true
 in_range_is first count n low high = grind (arith, nat_tests)
 
 -- ---- descriptors that are apart start at different places

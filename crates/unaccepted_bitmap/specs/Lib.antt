@@ -1,3 +1,4 @@
 pub mod BitmapValue
+pub mod Fits
 pub mod StubMap
 pub mod TableFile

@@ -5,7 +5,7 @@ ghost use Rattle.event_core.specs.Table.{IsTable};
 ghost use Rattle.unaccepted_bitmap.specs.BitmapValue.{ClearsBits, SetsBits, guarded_in, any_unit};
 ghost use Rattle.unaccepted_bitmap.specs.TableFile.{table_of, table_bytes_of};
 
-use crate::bytes::{clear_units, run_of_set, set_units};
+use crate::bytes::{clear_units, is_set, run_of_set, set_units};
 use crate::guard::guarded_units;
 use crate::stub::{UNIT, stub_bits, unaccepted};
 use crate::table::table_bytes;
@@ -85,6 +85,13 @@ impl Bitmap {
         ensures kept { IsTable self.now }
     {
         self.bits.len() as u64 * 8
+    }
+
+    /// Whether a unit's bit is set.
+    pub(crate) fn has_bit(&self, unit: u64) -> bool
+        ensures { result ≡ bit_of self.now.bits unit }
+    {
+        is_set(self.bits.as_slice(), unit)
     }
 
     /// A copy of the bytes.

@@ -8,7 +8,7 @@ ghost use Rattle.unaccepted_bitmap.specs.BitmapValue.{SetsBits};
 use guest_base::Units;
 
 /// Whether a unit's bit is set; a unit outside the bytes has a clear bit.
-fn is_set(bytes: &[u8], unit: u64) -> bool
+pub fn is_set(bytes: &[u8], unit: u64) -> bool
     ensures { result ≡ bit_of bytes.now unit }
 {
     match bytes.get((unit / 8) as usize) {

@@ -1,4 +1,4 @@
-//! Why an unaccepted table is refused.
+//! Why an unaccepted table is refused, or doesn't fit a map.
 
 ghost use Rattle.std.specs.Prelude.{◌≡◌};
 ghost use Rattle.unaccepted_bitmap.specs.declared.fault.TableFault.TheVariants.{NoMemory};
@@ -29,6 +29,11 @@ pub enum TableFault {
     #[error("no memory")]
     NoMemory,
 }
+
+/// A unit whose bit is set, and which doesn't lie in unaccepted memory: the first, counted from the base.
+#[derive(Clone, Copy, Debug, PartialEq, Eq, Error)]
+#[error("unit {0} isn't unaccepted memory")]
+pub struct BadBit(pub u64);
 
 impl From<AllocError> for TableFault {
     ghost from_gives = { λ _ e. e ≡ NoMemory };

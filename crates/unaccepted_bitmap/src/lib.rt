@@ -4,12 +4,14 @@
 mod bitmap;
 mod bytes;
 mod fault;
+mod fit;
 mod guard;
+mod ram;
 mod stub;
 mod table;
 
 pub use bitmap::Bitmap;
-pub use fault::TableFault;
+pub use fault::{BadBit, TableFault};
 pub use stub::early;
 pub use table::read_table;
 

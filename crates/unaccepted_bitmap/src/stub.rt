@@ -20,7 +20,7 @@ use std::alloc::{AllocError, Global};
 pub const UNIT: u64 = 2_097_152;
 
 /// The memory type of unaccepted memory (UEFI 2.9).
-const UNACCEPTED: u32 = 15;
+pub const UNACCEPTED: u32 = 15;
 
 /// The unaccepted descriptors, in the order of the map.
 pub fn unaccepted(alloc: Global, descriptors: &[Descriptor]) -> Result<Vec<Descriptor>, AllocError>

@@ -1,6 +1,6 @@
 ghost use Rattle.std.specs.Prelude.{◌<◌};
 
-use crate::{Bitmap, TableFault, early, read_table};
+use crate::{BadBit, Bitmap, TableFault, early, read_table};
 use efi_map::read_map;
 use guest_base::{PageRun, PageState, Pages, Unit, Units};
 use std::alloc::Global;
@@ -130,6 +130,50 @@ fn reads_a_table(rt: HostRuntime) -> Result<(), Fail> {
     assert!(rt; !bitmap.contains(0x60_0000, 0x1000));
     assert_eq!(rt; bitmap.next_run(Unit(0), Unit(8)), units(0, 1));
     assert_eq!(rt; bitmap.next_run(Unit(1), Unit(8)), units(2, 2));
+    bitmap.set(second);
+    assert!(rt; bitmap.contains(0x60_0000, 0x1000));
+    assert_eq!(rt; bitmap.next_run(Unit(0), Unit(8)), units(0, 4));
+    Ok(())
+}
+
+/// A table of units of 4 KiB from 4 MiB on: the bits of the first 512 units are clear, those of the 1,536 units behind them set.
+fn small_units() -> [u8; 280] {
+    let mut table = [0; 280];
+    table[0] = 1;
+    table[5] = 0x10;
+    table[10] = 0x40;
+    table[17] = 1;
+    for at in 88..280usize {
+        table[at] = 0xff;
+    }
+    table
+}
+
+#[test]
+fn fits_small_units(rt: HostRuntime) -> Result<(), Fail> {
+    let map = read_map(rt.alloc(), &FOUR_UNITS)?;
+    let bitmap = read_table(rt.alloc(), &small_units())?;
+    assert_eq!(rt; bitmap.unit(), 0x1000);
+    let bitmap = bitmap.fit(&map).ok().ok_or("a bad bit")?;
+    let runs = bitmap.ram(rt.alloc(), &map)?;
+    let accepted = PageRun {
+        pages: Pages {
+            first: 0,
+            count: 1536,
+        },
+        state: PageState::Accepted,
+    };
+    assert_eq!(rt; runs.as_slice(), [accepted, pending(1536, 1536)].as_slice());
+    Ok(())
+}
+
+#[test]
+fn refuses_a_bad_bit(rt: HostRuntime) -> Result<(), Fail> {
+    let map = read_map(rt.alloc(), &FOUR_UNITS)?;
+    let mut table = table_with(1);
+    table[10] = 0;
+    let bitmap = read_table(rt.alloc(), &table)?;
+    assert_eq!(rt; bitmap.fit(&map).err(), Some(BadBit(0)));
     Ok(())
 }
 
@@ -153,12 +197,25 @@ fn fault_at(alloc: Global, at: usize, byte: u8) -> Option<TableFault>
 }
 
 #[test]
+fn refuses_three_pages_a_unit(rt: HostRuntime) {
+    let mut table = FOUR_UNITS_TABLE;
+    table[5] = 0x30;
+    table[6] = 0;
+    let fault = read_table(rt.alloc(), &table).err();
+    assert_eq!(rt; fault, Some(TableFault::BadUnit(12288)));
+}
+
+#[test]
 fn refuses_changed_tables(rt: HostRuntime) {
     let alloc = rt.alloc();
     assert_eq!(rt; fault_at(alloc, 0, 2), Some(TableFault::BadVersion(2)));
     assert_eq!(rt;
         fault_at(alloc, 6, 0x30),
         Some(TableFault::BadUnit(0x30_0000))
+    );
+    assert_eq!(rt;
+        fault_at(alloc, 5, 0x30),
+        Some(TableFault::BadUnit(0x20_3000))
     );
     assert_eq!(rt;
         fault_at(alloc, 9, 0x10),

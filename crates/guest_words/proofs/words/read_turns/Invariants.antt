@@ -1,5 +1,4 @@
 use Rattle.std.proofs.Common.{◌≡◌, drop}
-use Rattle.std.specs.Prelude.{map}
 use Rattle.guest_words.specs.declared.place.Place.TheVariants.{Open}
 use Rattle.guest_words.specs.Words.{nothing, bytes_of_words}
 use Rattle.guest_words.specs.Steps.{told}

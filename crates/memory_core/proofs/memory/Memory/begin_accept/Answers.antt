@@ -1,5 +1,6 @@
 use Rattle.std.proofs.Common.{◌≡◌, ℕ, ◌+◌, ◌-◌, ◌*◌, ◌^◌, ◌<◌, ◌≤◌, true, None, Some, [], ◌∷◌, ◌++◌, sym, ◌∙◌, ap, subst, arith, refl, cond}
-use Rattle.std.specs.Prelude.{slice_set, ◌==◌}
+use Rattle.std.specs.Prelude.{slice_set, Vec, ◌==◌}
+use Rattle.std.specs.declared.alloc.Global.{Global}
 use Rattle.guest_base.specs.Ranges.{in_range}
 use Rattle.guest_base.specs.declared.memory.Pages.{Pages}
 use Rattle.event_core.specs.declared.entry.Turn.{Turn}
@@ -7,10 +8,12 @@ use Rattle.event_core.specs.declared.event.Event.TheVariants.{Claim}
 use Rattle.event_core.specs.Calls.{calls_of}
 use Rattle.event_core.specs.Claims.{claim_of, in_the_way}
 use Rattle.event_core.specs.MemoryRows.{run_of_claim, pages_first, pages_count}
-use Rattle.event_core.specs.Units.{guarded_units, unit_pages}
+use Rattle.guest_base.specs.declared.memory.Units.{Units}
+use Rattle.event_core.specs.Units.{guarded_units, unit_pages, units_end}
 use Rattle.page_module.specs.States.{state_in}
 use Rattle.page_module.specs.Tables.{run_count}
 use Rattle.accepting_ranges.specs.Claims.{range_of}
+use Rattle.memory_core.specs.Bitmaps.{bits_in, AreRunsFrom}
 use Rattle.memory_core.specs.Answers.{IsMet, Opens, OthersKeep}
 use Rattle.memory_core.specs.Steps.{last_stamp, bare_entry, Appends}
 use Rattle.memory_core.specs.Value.{MemoryValue}
@@ -25,7 +28,7 @@ use Rattle.memory_core.proofs.memory.Memory.begin_accept.Goals as goal
 pub returns-in-Some-clause-begun : goal.returns-in-Some-clause-begun
 returns-in-Some-clause-begun c =
     let i = c.self.inside in
-    let s = c.self.invariant in
+    let s = c.self.invariant.0 in
     let met = way-some i.boot.value i.entries i.last i.table i.bits i.accepting i.claims.items i.unit_pages i.kept i.room s c.guarded_units_of-units.result c.in-Some.met c.in-Some.ensures.some in
     let guarded = c.guarded_units_of-units.ensures.units ∙ guarded-same i.boot.value i.bits c.args.start c.args.len s.same_bits in
     let P : MemoryValue → Type 0 = λ m. IsMet m (guarded_units m.boot c.args.start c.args.len) c.in-Some.met in
@@ -34,7 +37,7 @@ returns-in-Some-clause-begun c =
 pub run_pages-requires-clause-some : goal.run_pages-requires-clause-some
 run_pages-requires-clause-some c =
     let i = c.self.inside in
-    let s = c.self.invariant in
+    let s = c.self.invariant.0 in
     let run = c.in-Some-both_of.run' in
     let units = c.in-Some-both_of.units in
     let f = claimed-facts i.boot.value i.entries.items i.claims.items i.room c.args.self.now i.bits i.accepting c.args.start c.args.len c.guarded_units_of-units.result c.first_run_of-run.result (units, run) c.self.view_is s.same_bits s.holds.bits
@@ -44,7 +47,7 @@ run_pages-requires-clause-some c =
 pub run_pages-requires-clause-set : goal.run_pages-requires-clause-set
 run_pages-requires-clause-set c =
     let i = c.self.inside in
-    let s = c.self.invariant in
+    let s = c.self.invariant.0 in
     let run = c.in-Some-both_of.run' in
     let units = c.in-Some-both_of.units in
     let f = claimed-facts i.boot.value i.entries.items i.claims.items i.room c.args.self.now i.bits i.accepting c.args.start c.args.len c.guarded_units_of-units.result c.first_run_of-run.result (units, run) c.self.view_is s.same_bits s.holds.bits
@@ -54,7 +57,7 @@ run_pages-requires-clause-set c =
 pub take-span-requires-clause-here : goal.take-span-requires-clause-here
 take-span-requires-clause-here c page inside none =
     let i = c.self.inside in
-    let s = c.self.invariant in
+    let s = c.self.invariant.0 in
     let run = c.in-Some-both_of.run' in
     let units = c.in-Some-both_of.units in
     let f = claimed-facts i.boot.value i.entries.items i.claims.items i.room c.args.self.now i.bits i.accepting c.args.start c.args.len c.guarded_units_of-units.result c.first_run_of-run.result (units, run) c.self.view_is s.same_bits s.holds.bits
@@ -68,7 +71,7 @@ take-span-requires-clause-here c page inside none =
 pub take-span-requires-clause-room : goal.take-span-requires-clause-room
 take-span-requires-clause-room c =
     let i = c.self.inside in
-    let s = c.self.invariant in
+    let s = c.self.invariant.0 in
     let run = c.in-Some-both_of.run' in
     let units = c.in-Some-both_of.units in
     let f = claimed-facts i.boot.value i.entries.items i.claims.items i.room c.args.self.now i.bits i.accepting c.args.start c.args.len c.guarded_units_of-units.result c.first_run_of-run.result (units, run) c.self.view_is s.same_bits s.holds.bits
@@ -82,10 +85,33 @@ take-span-requires-clause-room c =
     let P : ℕ → Type 0 = λ n. i.room * (2 * n + 2) ≤ i.table.room in
     room-take (unit_pages i.boot.value) i.room run.count (run_count (state_in i.table.runs) c.run_pages.result) i.table.room first.some (omega (arith, counts, need)) (runs-few i.boot.value run i.table.runs c.run_pages.result pages) (subst P size all)
 
+pub runs_behind-requires-clause-run : goal.runs_behind-requires-clause-run
+runs_behind-requires-clause-run c =
+    let i = c.self.inside in
+    let s = c.self.invariant.0 in
+    let run = c.in-Some-both_of.run' in
+    let units = c.in-Some-both_of.units in
+    let f = claimed-facts i.boot.value i.entries.items i.claims.items i.room c.args.self.now i.bits i.accepting c.args.start c.args.len c.guarded_units_of-units.result c.first_run_of-run.result (units, run) c.self.view_is s.same_bits s.holds.bits
+    c.guarded_units_of-units.ensures.units c.guarded_units_of-units.ensures.end c.first_run_of-run.ensures (sym c.both_of.ensures ∙ c.in-Some-both_of.is) (c.in_default.ensures.none refl) c.requires.room in
+    f.first.within
+
+pub runs_behind-requires-clause-room : goal.runs_behind-requires-clause-room
+runs_behind-requires-clause-room c =
+    let i = c.self.inside in
+    let s = c.self.invariant.0 in
+    let run = c.in-Some-both_of.run' in
+    let units = c.in-Some-both_of.units in
+    let f = claimed-facts i.boot.value i.entries.items i.claims.items i.room c.args.self.now i.bits i.accepting c.args.start c.args.len c.guarded_units_of-units.result c.first_run_of-run.result (units, run) c.self.view_is s.same_bits s.holds.bits
+    c.guarded_units_of-units.ensures.units c.guarded_units_of-units.ensures.end c.first_run_of-run.ensures (sym c.both_of.ensures ∙ c.in-Some-both_of.is) (c.in_default.ensures.none refl) c.requires.room in
+    let counts = f.first.counts in
+    let need = f.need in
+    let spare = c.self.invariant.1.enough in
+    omega (arith, counts, need, spare)
+
 pub overflow_sub-claim-in-Some-both_of : goal.overflow_sub-claim-in-Some-both_of
 overflow_sub-claim-in-Some-both_of c =
     let i = c.self.inside in
-    let s = c.self.invariant in
+    let s = c.self.invariant.0 in
     let run = c.in-Some-both_of.run' in
     let units = c.in-Some-both_of.units in
     let f = claimed-facts i.boot.value i.entries.items i.claims.items i.room c.args.self.now i.bits i.accepting c.args.start c.args.len c.guarded_units_of-units.result c.first_run_of-run.result (units, run) c.self.view_is s.same_bits s.holds.bits
@@ -97,7 +123,7 @@ overflow_sub-claim-in-Some-both_of c =
 pub invariant_of-self : goal.invariant_of-self
 invariant_of-self c =
     let i = c.self.inside in
-    let s = c.self.invariant in
+    let s = c.self.invariant.0 in
     let run = c.in-Some-both_of.run' in
     let units = c.in-Some-both_of.units in
     let f = claimed-facts i.boot.value i.entries.items i.claims.items i.room c.args.self.now i.bits i.accepting c.args.start c.args.len c.guarded_units_of-units.result c.first_run_of-run.result (units, run) c.self.view_is s.same_bits s.holds.bits
@@ -117,19 +143,21 @@ invariant_of-self c =
     let small = i.entries.small in
     let cpu_now : c.append.new.turn.cpu.0 ≡ turn.cpu.0 = ap (λ (t : Turn). t.cpu.0) c.append.ensures.turn in
     let U = both-is c.guarded_units_of-units.result c.first_run_of-run.result (units, run) (sym c.both_of.ensures ∙ c.in-Some-both_of.is) in
-    let event : Claim None c.guarded_units_of-units.result c.first_run_of-run.result ≡ Claim None (Some units) (Some run) = ap (λ u. Claim None u c.first_run_of-run.result) U.0 ∙ ap (Claim None (Some units)) U.1 in
-    stands-claimed i.boot.value i.entries c.append.new.entries i.last c.append.new.last i.table c.take-span.new.self i.bits i.accepting c.add.new.self i.claims.items c.set_claim.new.claims.items i.unit_pages i.kept _ i.room left turn units run c.run_pages.result c.take-span.result
-    s (omega (arith, low, cpus)) free f.clear first f.end need
-    (c.append.ensures.entries ∙ ap (λ e. i.entries.items ++ bare_entry turn i.last e ∷ []) event) c.append.ensures.capacity c.append.ensures.last c.requires.clock last
-    pages c.take-span.ensures.pages c.take-span.ensures.rest c.take-span.ensures.out c.take-span.ensures.room
-    (λ other. c.add.ensures other ∙ ap (λ n. cond (other == n) (Some units) (range_of i.accepting other)) cpu_now)
-    refl (c.set_claim.ensures ∙ ap (λ n. slice_set i.claims.items n (Some (made_claim units run c.ticket.result left))) cpu_now ∙ ap (λ t. slice_set i.claims.items turn.cpu.0 (Some (made_claim units run t left))) c.ticket.ensures)
-    refl (omega (arith, fits, small, counts, need, some))
+    let event : Claim None c.guarded_units_of-units.result c.first_run_of-run.result ≡ Claim None (Some units) (Some run) = ap (λ u. Claim None u c.first_run_of-run.result) U.0 ∙ ap (Claim None (Some units)) U.1 in (
+      stands-claimed i.boot.value i.entries c.append.new.entries i.last c.append.new.last i.table c.take-span.new.self i.bits i.accepting c.add.new.self i.claims.items c.set_claim.new.claims.items i.unit_pages i.kept _ i.room left turn units run c.replace.result c.run_pages.result c.take-span.result
+          s (omega (arith, low, cpus)) free f.clear first f.end need (subst (λ (rs : Vec Units Global). AreRunsFrom (bits_in i.bits) (units_end run) (units_end units) rs.items) (sym c.replace.ensures.value) c.runs_behind.ensures)
+          (c.append.ensures.entries ∙ ap (λ e. i.entries.items ++ bare_entry turn i.last e ∷ []) event) c.append.ensures.capacity c.append.ensures.last c.requires.clock last
+          pages c.take-span.ensures.pages c.take-span.ensures.rest c.take-span.ensures.out c.take-span.ensures.room
+          (λ other. c.add.ensures other ∙ ap (λ n. cond (other == n) (Some units) (range_of i.accepting other)) cpu_now)
+          refl (c.set_claim.ensures ∙ ap (λ n. slice_set i.claims.items n (Some (made_claim units run c.replace.result c.ticket.result left))) cpu_now ∙ ap (λ t. slice_set i.claims.items turn.cpu.0 (Some (made_claim units run c.replace.result t left))) c.ticket.ensures)
+          refl (omega (arith, fits, small, counts, need, some)),
+      record { empty = ap (λ (rs : Vec Units Global). rs.items) c.replace.ensures.after ∙ c.new.ensures.items; enough = omega arith },
+    )
 
 pub invariant_of-self-in-None : goal.invariant_of-self-in-None
 invariant_of-self-in-None c =
     let i = c.self.inside in
-    let s = c.self.invariant in
+    let s = c.self.invariant.0 in
     let turn = c.args.turn.now in
     let U = c.guarded_units_of-units.result in
     let R = c.first_run_of-run.result in
@@ -139,14 +167,17 @@ invariant_of-self-in-None c =
     let need = c.requires.room in
     let fits = s.entry_room in
     let small = i.entries.small in
-    stands-more i.boot.value i.entries c.append.new.entries i.last c.append.new.last i.table i.bits i.accepting i.claims.items i.unit_pages i.kept i.room _ turn (Claim None U R) s
-    (calls-claimed i.boot.value i.entries.items turn i.last U R) (claims-closed i.boot.value i.entries.items turn i.last U R free (sym c.both_of.ensures ∙ c.in-None.is))
-    c.append.ensures.entries c.append.ensures.capacity c.append.ensures.last c.requires.clock last (omega (arith, fits, small)) (omega (arith, room, need)) refl
+    let spare = c.self.invariant.1.enough in (
+      stands-more i.boot.value i.entries c.append.new.entries i.last c.append.new.last i.table i.bits i.accepting i.claims.items i.unit_pages i.kept i.room _ turn (Claim None U R) s
+          (calls-claimed i.boot.value i.entries.items turn i.last U R) (claims-closed i.boot.value i.entries.items turn i.last U R free (sym c.both_of.ensures ∙ c.in-None.is))
+          c.append.ensures.entries c.append.ensures.capacity c.append.ensures.last c.requires.clock last (omega (arith, fits, small)) (omega (arith, room, need)) refl,
+      record { empty = c.self.invariant.1.empty; enough = omega (arith, spare) },
+    )
 
 pub returns-in-Some-both_of-clause-begun : goal.returns-in-Some-both_of-clause-begun
 returns-in-Some-both_of-clause-begun c =
     let i = c.self.inside in
-    let s = c.self.invariant in
+    let s = c.self.invariant.0 in
     let run = c.in-Some-both_of.run' in
     let units = c.in-Some-both_of.units in
     let f = claimed-facts i.boot.value i.entries.items i.claims.items i.room c.args.self.now i.bits i.accepting c.args.start c.args.len c.guarded_units_of-units.result c.first_run_of-run.result (units, run) c.self.view_is s.same_bits s.holds.bits
@@ -169,8 +200,8 @@ returns-in-Some-both_of-clause-begun c =
       run = run;
       free = ap (in_the_way i.boot.value i.entries.items) (sym guarded) ∙ way-none i.boot.value i.entries i.last i.table i.bits i.accepting i.claims.items i.unit_pages i.kept i.room s U (c.in_default.ensures.none refl);
       first = f.run_is;
-      out = out-for i.boot.value c.append.new.entries.items i.claims.items c.set_claim.new.claims.items 0 turn.cpu.0 run c.take-span.result (made_claim units run c.ticket.result left) calls (omega (arith, low, cpus, places))
-          (c.set_claim.ensures ∙ ap (λ n. slice_set i.claims.items n (Some (made_claim units run c.ticket.result left))) cpu_now) c.ticket.ensures
+      out = out-for i.boot.value c.append.new.entries.items i.claims.items c.set_claim.new.claims.items 0 turn.cpu.0 run c.take-span.result (made_claim units run c.replace.result c.ticket.result left) calls (omega (arith, low, cpus, places))
+          (c.set_claim.ensures ∙ ap (λ n. slice_set i.claims.items n (Some (made_claim units run c.replace.result c.ticket.result left))) cpu_now) c.ticket.ensures
           (ap (calls_of i.boot.value) c.append.ensures.entries ∙ calls-claimed i.boot.value i.entries.items turn i.last U R)
           (has-states i.boot.value calls (claim_of i.boot.value i.entries.items) run c.run_pages.result i.table.runs c.take-span.result pages c.take-span.ensures.pages c.take-span.ensures.states
           (claimed-in i.boot.value i.entries i.last i.table i.bits i.accepting i.claims.items i.unit_pages i.kept i.room units run s f.clear first) s.holds.states)
@@ -180,7 +211,7 @@ returns-in-Some-both_of-clause-begun c =
 pub returns-in-Some-both_of-clause-appends : goal.returns-in-Some-both_of-clause-appends
 returns-in-Some-both_of-clause-appends c free =
     let i = c.self.inside in
-    let s = c.self.invariant in
+    let s = c.self.invariant.0 in
     let turn = c.args.turn.now in
     let P : MemoryValue → Type 0 = λ m. Appends m (seen i.boot.value c.append.new.entries.items c.set_claim.new.claims.items 0) turn c.append.new.turn (Claim None (guarded_units m.boot c.args.start c.args.len) (run_of_claim m.boot m.entries (guarded_units m.boot c.args.start c.args.len))) in
     subst P c.self.view_is
@@ -190,7 +221,7 @@ returns-in-Some-both_of-clause-appends c free =
 pub returns-in-Some-both_of-clause-others : goal.returns-in-Some-both_of-clause-others
 returns-in-Some-both_of-clause-others c =
     let i = c.self.inside in
-    let s = c.self.invariant in
+    let s = c.self.invariant.0 in
     let turn = c.args.turn.now in
     let run = c.in-Some-both_of.run' in
     let units = c.in-Some-both_of.units in
@@ -198,14 +229,14 @@ returns-in-Some-both_of-clause-others c =
     let left : ℕ = i.room - 1 - run.count in
     let P : MemoryValue → Type 0 = λ m. OthersKeep m (seen i.boot.value c.append.new.entries.items c.set_claim.new.claims.items 0) turn.cpu.0 in
     subst P c.self.view_is
-    (others-kept i.boot.value i.entries.items c.append.new.entries.items i.claims.items c.set_claim.new.claims.items i.room 0 turn.cpu.0 (Some (made_claim units run c.ticket.result left))
+    (others-kept i.boot.value i.entries.items c.append.new.entries.items i.claims.items c.set_claim.new.claims.items i.room 0 turn.cpu.0 (Some (made_claim units run c.replace.result c.ticket.result left))
     (ap (calls_of i.boot.value) c.append.ensures.entries ∙ calls-claimed i.boot.value i.entries.items turn i.last c.guarded_units_of-units.result c.first_run_of-run.result)
-    (c.set_claim.ensures ∙ ap (λ n. slice_set i.claims.items n (Some (made_claim units run c.ticket.result left))) cpu_now))
+    (c.set_claim.ensures ∙ ap (λ n. slice_set i.claims.items n (Some (made_claim units run c.replace.result c.ticket.result left))) cpu_now))
 
 pub returns-in-None-clause-begun : goal.returns-in-None-clause-begun
 returns-in-None-clause-begun c =
     let i = c.self.inside in
-    let s = c.self.invariant in
+    let s = c.self.invariant.0 in
     let U = c.guarded_units_of-units.result in
     let R = c.first_run_of-run.result in
     let guarded = c.guarded_units_of-units.ensures.units ∙ guarded-same i.boot.value i.bits c.args.start c.args.len s.same_bits in
@@ -218,7 +249,7 @@ returns-in-None-clause-begun c =
 pub returns-in-None-clause-appends : goal.returns-in-None-clause-appends
 returns-in-None-clause-appends c free =
     let i = c.self.inside in
-    let s = c.self.invariant in
+    let s = c.self.invariant.0 in
     let turn = c.args.turn.now in
     let P : MemoryValue → Type 0 = λ m. Appends m (seen i.boot.value c.append.new.entries.items i.claims.items (i.room - 1)) turn c.append.new.turn (Claim None (guarded_units m.boot c.args.start c.args.len) (run_of_claim m.boot m.entries (guarded_units m.boot c.args.start c.args.len))) in
     subst P c.self.view_is

@@ -10,7 +10,7 @@ use Rattle.memory_core.proofs.memory.Memory.into_parts.Goals as goal
 pub returns-clause-none_out : goal.returns-clause-none_out
 returns-clause-none_out c none =
     let i = c.self.inside in
-    let s = c.self.invariant in
+    let s = c.self.invariant.0 in
     empty i.table.out
     (s.spans
     ∙ no-spans i.claims.items (λ cpu. none-kept i.boot.value (bits_in i.bits) i.table.out (kept_by i.claims.items cpu) (claim_of i.boot.value i.entries.items cpu)

@@ -9,5 +9,5 @@ use Rattle.memory_core.proofs.memory.Memory.next_run.Goals as goal
 pub returns : goal.returns
 returns c =
     let i = c.self.inside in
-    c.run_from.ensures ∙ first_run-same (bits_in i.bits) (bit_after i.boot.value (calls_of i.boot.value i.entries.items)) c.args.from.0 c.args.to.0 (λ unit low high. c.self.invariant.holds.bits unit)
+    c.run_from.ensures ∙ first_run-same (bits_in i.bits) (bit_after i.boot.value (calls_of i.boot.value i.entries.items)) c.args.from.0 c.args.to.0 (λ unit low high. c.self.invariant.0.holds.bits unit)
     ∙ ap (λ (m : MemoryValue). first_run (bit_after m.boot (calls_of m.boot m.entries)) c.args.from.0 c.args.to.0) c.self.view_is

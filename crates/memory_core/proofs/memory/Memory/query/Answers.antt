@@ -14,19 +14,22 @@ invariant_of-self c =
     let i = c.self.inside in
     let found = c.has_unaccepted-found.result in
     let turn = c.args.turn.now in
-    let last : i.last < 2 ^ 64 = (let is = c.self.invariant.last_is in let same = ap (λ (m : MemoryValue). last_stamp m.entries) c.self.view_is in let low = c.requires.last in omega arith) in
+    let last : i.last < 2 ^ 64 = (let is = c.self.invariant.0.last_is in let same = ap (λ (m : MemoryValue). last_stamp m.entries) c.self.view_is in let low = c.requires.last in omega arith) in
     let room = ap (λ (m : MemoryValue). m.room) c.self.view_is in
     let some = c.requires.room in
-    let kept = c.self.invariant.entry_room in
+    let kept = c.self.invariant.0.entry_room in
     let small = i.entries.small in
-    stands-more i.boot.value i.entries c.append.new.entries i.last c.append.new.last i.table i.bits i.accepting i.claims.items i.unit_pages i.kept i.room _ turn (Asked found) c.self.invariant
-    (calls-asked i.boot.value i.entries.items turn i.last found) (claims-asked i.boot.value i.entries.items turn i.last found)
-    c.append.ensures.entries c.append.ensures.capacity c.append.ensures.last c.requires.clock last (omega arith) (omega arith) refl
+    let spare = c.self.invariant.1.enough in (
+      stands-more i.boot.value i.entries c.append.new.entries i.last c.append.new.last i.table i.bits i.accepting i.claims.items i.unit_pages i.kept i.room _ turn (Asked found) c.self.invariant.0
+          (calls-asked i.boot.value i.entries.items turn i.last found) (claims-asked i.boot.value i.entries.items turn i.last found)
+          c.append.ensures.entries c.append.ensures.capacity c.append.ensures.last c.requires.clock last (omega arith) (omega arith) refl,
+      record { empty = c.self.invariant.1.empty; enough = omega (arith, spare) },
+    )
 
 pub returns-clause-found : goal.returns-clause-found
 returns-clause-found c =
     let i = c.self.inside in
     c.has_unaccepted-found.ensures
-    ∙ ap (any_in (bits_in i.bits)) (guarded-same i.boot.value i.bits c.args.start c.args.len c.self.invariant.same_bits)
-    ∙ any-same i.boot.value i.entries.items (bits_in i.bits) (guarded_units i.boot.value c.args.start c.args.len) c.self.invariant.holds.bits
+    ∙ ap (any_in (bits_in i.bits)) (guarded-same i.boot.value i.bits c.args.start c.args.len c.self.invariant.0.same_bits)
+    ∙ any-same i.boot.value i.entries.items (bits_in i.bits) (guarded_units i.boot.value c.args.start c.args.len) c.self.invariant.0.holds.bits
     ∙ ap (λ (m : MemoryValue). some_unaccepted m.boot m.entries (guarded_units m.boot c.args.start c.args.len)) c.self.view_is

@@ -10,5 +10,5 @@ use Rattle.memory_core.proofs.memory.Memory.unaccepted_units.Goals as goal
 pub returns : goal.returns
 returns c =
     let i = c.self.inside in
-    c.count_unaccepted.ensures ∙ count_such_same (bits_in i.bits) (bit_after i.boot.value (calls_of i.boot.value i.entries.items)) c.args.units.first c.args.units.count (record { same = λ unit low high. c.self.invariant.holds.bits unit })
+    c.count_unaccepted.ensures ∙ count_such_same (bits_in i.bits) (bit_after i.boot.value (calls_of i.boot.value i.entries.items)) c.args.units.first c.args.units.count (record { same = λ unit low high. c.self.invariant.0.holds.bits unit })
     ∙ ap (λ (m : MemoryValue). count_such (bit_after m.boot (calls_of m.boot m.entries)) c.args.units.first c.args.units.count) c.self.view_is
