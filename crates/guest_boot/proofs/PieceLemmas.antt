@@ -1,4 +1,4 @@
-use Rattle.std.proofs.Common.{◌≡◌, ◌≢◌, ℕ, zero, suc, ◌+◌, ◌^◌, ◌≤◌, Bool, true, false, ◌&&◌, Option, None, Some, List, [], ◌∷◌, ◌++◌, refl, sym, ◌∙◌, ap, subst, inl, inr, arith, cond}
+use Rattle.std.proofs.Common.{◌≡◌, ◌≢◌, ℕ, zero, suc, ◌+◌, ◌^◌, ◌≤◌, Bool, true, false, ◌&&◌, Option, None, Some, List, [], ◌∷◌, ◌++◌, refl, sym, ◌∙◌, ap, subst, inl, inr, arith, cond, append-nil}
 use Rattle.std.specs.Prelude.{Result, Ok, Err, OnOk}
 use mathlib.Core.Path.{fun_ext}
 use Rattle.std.proofs.lemmas.Bool.{cases_Bool}
@@ -17,7 +17,7 @@ use Rattle.event_core.specs.Boot.{AcceptsPiece, pending_piece}
 use Rattle.event_core.specs.Calls.{state_after, SoundCalls}
 use Rattle.event_core.specs.MemoryRows.{page_state, is_pending}
 use Rattle.event_core.specs.Runs.{state_in as first_state_of}
-use Rattle.event_core.specs.Units.{bit_of, bit_after, is_marked, unit_first, unit_pages}
+use Rattle.event_core.specs.Units.{bit_of, bit_after, unit_first, unit_pages}
 use Rattle.event_core.proofs.StepsLemmas.{steps-outside, steps-sound, pending-is}
 use Rattle.event_core.proofs.SoundLemmas.{state_after-append, SoundCalls-append}
 use Rattle.page_module.specs.States.{state_in}
@@ -29,7 +29,7 @@ use Rattle.accept_sizes.specs.Accepts.{pending_of}
 use Rattle.event_core.specs.Table.{Bits}
 use Rattle.memory_core.specs.Bitmaps.{BitsAfter}
 use Rattle.memory_core.specs.Booted.{IsBooted, MarksArePending}
-use Rattle.memory_core.proofs.RunLemmas.{marks-push, steps-accept, bits-inside, state_after-same, state_after-some}
+use Rattle.memory_core.proofs.RunLemmas.{marks-push, steps-accept, accepts-none, bit-less, bits-inside, state_after-same, state_after-some}
 use Rattle.guest_boot.specs.Booting.{StandsAfter, IsEarly, AcceptedOut}
 use Rattle.guest_boot.specs.declared.accept.Kept.{Kept}
 
@@ -113,26 +113,33 @@ piece-states boot done now pages table next old new states one page =
           ∙ sym after
     ]
 
-unset : (boot : Boot) (calls : List ModuleCall) (unit : ℕ) → bit_of boot.bits unit ≡ false → bit_after boot calls unit ≡ false
-unfolding bit_after
-unset boot calls unit f = ap (λ b. elim b as (λ _. Bool) [ true ↦ any_such (is_marked true calls) (unit_first boot unit) (unit_pages boot) | false ↦ false ]) f
+-- of a unit that is unaccepted the bit says that a page of it is pending
+bit-now : (boot : Boot) (done : List ModuleCall) (unit : ℕ) → MarksArePending boot done → bit_after boot done unit ≡ true → bit_after boot done unit ≡ any_such (λ page. is_pending (page_state boot done page)) (unit_first boot unit) (unit_pages boot)
+bit-now boot done unit marks set =
+    let P : List ModuleCall → Type 0 = λ calls. bit_after boot calls unit ≡ any_such (λ page. is_pending (page_state boot calls page)) (unit_first boot unit) (unit_pages boot) in
+    subst P (append-nil done) (bits-inside boot done [] unit marks tt set)
 
--- pages apart from all set units change no bit
+not-set : (b : Bool) → b ≢ true → b ≡ false
+not-set false h = refl
+not-set true h = absurd (h refl)
+
+-- pages apart from all units that were set at first change no bit
 pub apart-bits : (boot : Boot) (done now : List ModuleCall) (pages : Pages) → ((unit page : ℕ) → bit_of boot.bits unit ≡ true → in_range (unit_first boot unit) (unit_pages boot) page ≡ true → in_range pages.first pages.count page ≡ false)
-    → MarksArePending boot done → MarksArePending boot (done ++ now) → AcceptanceSteps boot.hosts (pending_piece boot done pages) (pages.first + pages.count) pages.first None now → (unit : ℕ) → bit_after boot done unit ≡ bit_after boot (done ++ now) unit
-apart-bits boot done now pages apart before after steps unit =
-    elim (cases_Bool (bit_of boot.bits unit)) [
+    → MarksArePending boot done → ((unit : ℕ) → bit_after boot done unit ≡ true → bit_of boot.bits unit ≡ true) → AcceptanceSteps boot.hosts (pending_piece boot done pages) (pages.first + pages.count) pages.first None now → (unit : ℕ) → bit_after boot done unit ≡ bit_after boot (done ++ now) unit
+apart-bits boot done now pages apart marks held steps unit =
+    let accepts = steps-accept boot.hosts _ _ _ None now steps in
+    elim (cases_Bool (bit_after boot done unit)) [
       | inl t ↦
-          (bits-inside boot done unit before t
+          (bit-now boot done unit marks t
           ∙ any_such_same (λ page. is_pending (page_state boot done page)) (λ page. is_pending (page_state boot (done ++ now) page)) (unit_first boot unit) (unit_pages boot) (record {
             same = λ page low high.
-                let out = apart unit page t (in_range-intro (unit_first boot unit) (unit_pages boot) page low high) in
+                let out = apart unit page (held unit t) (in_range-intro (unit_first boot unit) (unit_pages boot) page low high) in
                 ap is_pending
                 (sym (steps-outside boot.hosts (pending_piece boot done pages) _ _ None now (page_state boot done) page (ap (λ b. b && is_pending (page_state boot done page)) out) steps)
                 ∙ sym (ap (λ (f : ℕ → Option PageState). f page) (state_after-append (first_state_of boot.ram) done now)));
           })
-          ∙ sym (bits-inside boot (done ++ now) unit after t))
-      | inr f ↦ unset boot done unit f ∙ sym (unset boot (done ++ now) unit f)
+          ∙ sym (bits-inside boot done now unit marks accepts t))
+      | inr f ↦ f ∙ sym (not-set _ (λ set. let no : true ≡ false = sym (bit-less boot done now unit (accepts-none now accepts) set) ∙ f in cc))
     ]
 
 pub piece-sound : (boot : Boot) (done now : List ModuleCall) (pages : Pages) → SoundCalls (first_state_of boot.ram) done → AcceptanceSteps boot.hosts (pending_piece boot done pages) (pages.first + pages.count) pages.first None now → SoundCalls (first_state_of boot.ram) (done ++ now)
@@ -162,13 +169,14 @@ pub piece-stands : (boot : Boot) (done now : List ModuleCall) (kept : Kept) (mid
 piece-stands boot done now kept mid new pages span next stands early a back table_is bits_is calls_is =
     let one = one-piece boot kept.table mid new pages span now a back in
     let steps = piece-steps boot done now pages (state_in kept.table.runs) (state_in new.runs) (state_in a.taken.runs) (state_in span.runs) stands.states one in
-    let marks = marks-push boot done now stands.marks (steps-accept boot.hosts _ _ _ None now steps) in
+    let accepts = steps-accept boot.hosts _ _ _ None now steps in
     let B : Option Bits → Type 0 = BitsAfter boot (done ++ now) in
     record {
       states = λ page. ap (λ (t : Table). state_in t.runs page) table_is ∙ piece-states boot done now pages (state_in kept.table.runs) (state_in new.runs) (state_in a.taken.runs) (state_in span.runs) stands.states one page;
       none_out = ap (λ (t : Table). t.out) table_is ∙ none-left boot.hosts kept.table mid new pages span now a back;
-      bits = subst B (sym bits_is) (record { same = stands.bits.same; set = λ unit. stands.bits.set unit ∙ apart-bits boot done now pages early.apart stands.marks marks steps unit });
-      marks = marks;
+      bits = subst B (sym bits_is) (record { same = stands.bits.same; set = λ unit. stands.bits.set unit ∙ apart-bits boot done now pages early.apart stands.marks stands.held steps unit });
+      marks = marks-push boot done now stands.marks accepts;
+      held = λ unit set. stands.held unit (bit-less boot done now unit (accepts-none now accepts) set);
       sound = piece-sound boot done now pages stands.sound steps;
       calls = calls_is ∙ ap (λ cs. cs ++ now) stands.calls;
     }

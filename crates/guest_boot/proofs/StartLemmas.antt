@@ -1,5 +1,5 @@
 use Rattle.std.proofs.Common.{◌≡◌, ◌≢◌, ℕ, suc, get_or, ◌+◌, ◌*◌, ◌/◌, ◌%◌, ◌^◌, ◌<◌, ◌≤◌, Bool, true, false, ◌&&◌, Option, None, Some, List, [], ◌∷◌, refl, sym, ◌∙◌, ap, subst, inl, inr, arith, cond, length, map}
-use Rattle.std.specs.Prelude.{All, AllPairs, nat_lt, find, slice_index, ◌==◌}
+use Rattle.std.specs.Prelude.{All, AllPairs, ◌-◌, nat_lt, nat_le, not, find, slice_index, ◌==◌}
 use Rattle.std.specs.Int.{bit_at}
 use Rattle.std.specs.List.{AllByRecursion, flat_map}
 use Rattle.std.specs.Option.{option_map}
@@ -8,15 +8,18 @@ use Rattle.std.proofs.lemmas.Bool.Decides.{nat_tests}
 use Rattle.std.proofs.lemmas.List.Elements.{recursion_from_All}
 use Rattle.guest_base.specs.Ranges.{in_range}
 use Rattle.guest_base.specs.Search.{any_such}
-use Rattle.guest_base.proofs.SearchLemmas.{any_such_is}
+use Rattle.guest_base.proofs.RangeLemmas.{in_range-elim}
+use Rattle.guest_base.proofs.SearchLemmas.{any_such_is, any_such_none, first_such-None, each_such-true}
 use Rattle.guest_base.specs.declared.memory.Pages.{Pages}
 use Rattle.guest_base.specs.declared.memory.PageRun.{PageRun}
 use Rattle.guest_base.specs.declared.memory.PageState.{PageState}
+use Rattle.guest_base.specs.declared.memory.PageState.TheVariants.{Pending, Accepted}
 use Rattle.guest_base.specs.declared.memory.HostRun.{HostRun}
 use Rattle.event_core.specs.declared.boot.Descriptor.{Descriptor}
 use Rattle.event_core.specs.declared.boot.Boot.{Boot}
 use Rattle.event_core.specs.Cut.{cut, blocks_of, ram_ranges, without_pool}
-use Rattle.event_core.specs.Map.{MapRules, first_state}
+use Rattle.event_core.specs.Map.{MapRules, first_state, unaccepted_page, ram_page}
+use Rattle.event_core.specs.Given.{FitsGiven, first_by, unit_by, base_by, length_by, bit_by}
 use Rattle.event_core.specs.MemoryRows.{is_pending}
 use Rattle.event_core.specs.Runs.{AreMaximalRuns, GoesBefore, run_holds, run_end, state_in as first_state_of}
 use Rattle.event_core.specs.Stub.{default_unit, unaccepted, round_down, least_start, stub_base, stub_length, stub_bit}
@@ -24,12 +27,13 @@ use Rattle.event_core.specs.Units.{bit_of, bit_after, unit_count, unit_first, un
 use Rattle.event_core.proofs.MapLemmas.{first_none, any_pending, pending_first}
 use Rattle.page_module.specs.States.{state_in}
 use Rattle.page_module.specs.Tables.{Rising}
-use Rattle.event_core.specs.Table.{Bits}
-use Rattle.unaccepted_bitmap.specs.StubMap.{StubBitmap, EarlyRuns}
+use Rattle.event_core.specs.Table.{Bits, FitsTable, marks_page, is_unaccepted_unit, bad_unit}
+use Rattle.unaccepted_bitmap.specs.StubMap.{StubBitmap, EarlyRuns, pending_run}
+use Rattle.unaccepted_bitmap.proofs.TableFacts.{unit_facts}
 use Rattle.memory_core.specs.Bitmaps.{bits_in, SameBits}
 use Rattle.memory_core.specs.Booted.{IsBooted}
 use Rattle.guest_boot.specs.Booting.{StandsAfter, IsEarly}
-use Rattle.guest_boot.specs.Starting.{Uncalled, IsFirstBoot, BitsOf}
+use Rattle.guest_boot.specs.Starting.{Uncalled, IsFirstBoot, BitsOf, BitmapBy, EarlyRunsBy}
 use Rattle.guest_boot.specs.declared.accept.Kept.{Kept}
 use Rattle.guest_boot.proofs.CutLemmas.{runs-low}
 use Rattle.guest_boot.proofs.EarlyLemmas.{UnitHolds, all-apart, early-held, early-at, unaccepted-each, unaccepted-apart}
@@ -38,16 +42,25 @@ use Rattle.guest_boot.proofs.EarlyLemmas.{UnitHolds, all-apart, early-held, earl
 
 -- ---- RAM
 
+-- what isn't RAM by the map has no first state by a table either
+none-marked : (b c m : Bool) → cond b (Some Pending) (cond c (Some Accepted) None) ≡ None → cond (b && m) (Some Pending) (cond c (Some Accepted) None) ≡ None
+none-marked false c m h = h
+none-marked true c m h = cc
+
+none-by : (map : List Descriptor) (table : Option Bits) (page : ℕ) → first_state map page ≡ None → first_by map table page ≡ None
+none-by map None page h = h
+none-by map (Some t) page h = none-marked (unaccepted_page map page) (ram_page map page) (marks_page t page) h
+
 -- RAM of a map lies in memory
-pub states-low : (map : List Descriptor) (hosts : List HostRun) → MapRules map hosts → (page : ℕ) → first_state map page ≢ None → page < 2 ^ 28
-states-low map hosts rules page some =
+pub states-low : (map : List Descriptor) (hosts : List HostRun) (table : Option Bits) → MapRules map hosts → (page : ℕ) → first_by map table page ≢ None → page < 2 ^ 28
+states-low map hosts table rules page some =
     elim (cases_lt page (2 ^ 28)) [
       | inl low ↦ low
-      | inr high ↦ absurd (some (first_none map page rules.each high))
+      | inr high ↦ absurd (some (none-by map table page (first_none map page rules.each high)))
     ]
 
-pub ram-ends : (map : List Descriptor) (hosts : List HostRun) (ram : List PageRun) → MapRules map hosts → AreMaximalRuns (first_state map) ram → All (λ (run : PageRun). run_end run ≤ 2 ^ 28) ram
-ram-ends map hosts ram rules maximal = runs-low (2 ^ 28) (first_state map) ram maximal (states-low map hosts rules)
+pub ram-ends : (map : List Descriptor) (hosts : List HostRun) (table : Option Bits) (ram : List PageRun) → MapRules map hosts → AreMaximalRuns (first_by map table) ram → All (λ (run : PageRun). run_end run ≤ 2 ^ 28) ram
+ram-ends map hosts table ram rules maximal = runs-low (2 ^ 28) (first_by map table) ram maximal (states-low map hosts table rules)
 
 pairs-tail : (run : PageRun) (runs : List PageRun) → AllPairs GoesBefore (run ∷ runs) → AllPairs GoesBefore runs
 pairs-tail run runs pairs i j d lt high = pairs (suc i) (suc j) d (omega arith) (omega arith)
@@ -63,10 +76,10 @@ from_zero : (runs : List PageRun) → AllByRecursion (λ (run : PageRun). 0 ≤ 
 from_zero [] = tt
 from_zero (run ∷ runs) = (omega arith, from_zero runs)
 
-pub ram-rises : (map : List Descriptor) (hosts : List HostRun) (ram : List PageRun) → MapRules map hosts → AreMaximalRuns (first_state map) ram → Rising 0 ram
-ram-rises map hosts ram rules maximal =
+pub ram-rises : (map : List Descriptor) (hosts : List HostRun) (table : Option Bits) (ram : List PageRun) → MapRules map hosts → AreMaximalRuns (first_by map table) ram → Rising 0 ram
+ram-rises map hosts table ram rules maximal =
     rising-of 0 ram (recursion_from_All (λ (run : PageRun). 0 < run.pages.count) ram maximal.some)
-    (recursion_from_All (λ (run : PageRun). run_end run ≤ 2 ^ 28) ram (ram-ends map hosts ram rules maximal)) maximal.rise (from_zero ram)
+    (recursion_from_All (λ (run : PageRun). run_end run ≤ 2 ^ 28) ram (ram-ends map hosts table ram rules maximal)) maximal.rise (from_zero ram)
 
 same-found : (b : Bool) (run : PageRun) (rest : Option PageState) (others : Option PageRun) → rest ≡ option_map (λ (r : PageRun). r.state) others → cond b (Some run.state) rest ≡ option_map (λ (r : PageRun). r.state) (cond b (Some run) others)
 same-found true run rest others h = refl
@@ -92,11 +105,26 @@ first-same boot (Some b) same = (sym same.0, sym same.1, ap length (sym same.2))
 marked-any : (first count : ℕ) → 0 < count → any_such (λ page. true) first count ≡ true
 marked-any first count some = any_such_is (λ page. true) first count first (omega arith) (omega arith) refl
 
+marked-none : (first count : ℕ) → any_such (λ page. false) first count ≡ false
+marked-none first count = any_such_none (λ page. false) first count (record { fails = λ n low high. refl })
+
+any-same : (b : Bool) (first count : ℕ) → 0 < count → any_such (λ page. b) first count ≡ b
+any-same true first count some = marked-any first count some
+any-same false first count some = marked-none first count
+
+no-unit : (b c : Bool) → b ≡ false → (b && c) ≡ false
+no-unit false c h = refl
+no-unit true c h = cc
+
+-- a unit's bit, by whether the unit is one of the bitmap's
+abbrev bit-by : Boot → ℕ → Bool → Bool
+bit-by boot unit b = elim b as (λ _. Bool) [ true ↦ any_such (λ page. bit_of boot.bits unit) (unit_first boot unit) (unit_pages boot) | false ↦ false ]
+
 first-bit : (boot : Boot) (unit : ℕ) → 0 < unit_pages boot → bit_after boot [] unit ≡ bit_of boot.bits unit
 unfolding bit_after
-first-bit boot unit some = elim (cases_Bool (bit_of boot.bits unit)) [
-  | inl t ↦ ap (λ b. elim b as (λ _. Bool) [ true ↦ any_such (λ page. true) (unit_first boot unit) (unit_pages boot) | false ↦ false ]) t ∙ marked-any (unit_first boot unit) (unit_pages boot) some ∙ sym t
-  | inr f ↦ ap (λ b. elim b as (λ _. Bool) [ true ↦ any_such (λ page. true) (unit_first boot unit) (unit_pages boot) | false ↦ false ]) f ∙ sym f
+first-bit boot unit some = elim (cases_Bool (nat_lt unit (unit_count boot.bits))) [
+  | inl t ↦ ap (bit-by boot unit) t ∙ any-same (bit_of boot.bits unit) (unit_first boot unit) (unit_pages boot) some
+  | inr f ↦ ap (bit-by boot unit) f ∙ sym (no-unit (nat_lt unit (unit_count boot.bits)) _ f)
 ]
 
 -- ---- a boot without its calls
@@ -116,7 +144,7 @@ lt-of : (a b : ℕ) → nat_lt a b ≡ true → a < b
 lt-of a b h = grind arith
 
 -- a set unit is one of the stub's, and holds its pages
-set-unit : (map : List Descriptor) (hosts : List HostRun) (slots areas cpus : ℕ) (boot : Boot) → Uncalled map hosts slots areas cpus boot → (unit page : ℕ) → bit_of boot.bits unit ≡ true → in_range (unit_first boot unit) (unit_pages boot) page ≡ true → (stub_bit map unit ≡ true) × UnitHolds (stub_base map + unit * default_unit) page
+set-unit : (map : List Descriptor) (hosts : List HostRun) (slots areas cpus : ℕ) (boot : Boot) → Uncalled map hosts None slots areas cpus boot → (unit page : ℕ) → bit_of boot.bits unit ≡ true → in_range (unit_first boot unit) (unit_pages boot) page ≡ true → (stub_bit map unit ≡ true) × UnitHolds (stub_base map + unit * default_unit) page
 set-unit map hosts slots areas cpus boot plain unit page set inside =
     let at = in_unit boot.base boot.unit unit (least_start (unaccepted map)) page plain.unit plain.base inside in
     let below = lt-of unit (unit_count boot.bits) (first-both _ _ set) in
@@ -126,22 +154,71 @@ set-unit map hosts slots areas cpus boot plain unit page set inside =
 quarter : (at : ℕ) → at % 2097152 ≡ 0 → at % 4096 ≡ 0
 quarter at even = omega (arith, even)
 
-pub is-booted : (map : List Descriptor) (hosts : List HostRun) (slots areas cpus : ℕ) (boot : Boot) → MapRules map hosts → Uncalled map hosts slots areas cpus boot → cpus ≤ 64 → IsBooted boot
-is-booted map hosts slots areas cpus boot rules plain few =
-    let size : unit_pages boot ≡ 512 = ap (λ u. u / 4096) plain.unit in
+-- ---- the units of a table
+
+unit-of : (base size unit page : ℕ) → base + unit * size ≤ page → page < base + unit * size + size → (page - base) / size ≡ unit
+unit-of base size unit page low high = grind arith
+
+marked-at : (table : Bits) (unit page : ℕ) → bit_of table.bits unit ≡ true → in_range (table.base / 4096 + unit * (table.unit / 4096)) (table.unit / 4096) page ≡ true → marks_page table page ≡ true
+marked-at table unit page set inside =
+    let within = in_range-elim (table.base / 4096 + unit * (table.unit / 4096)) (table.unit / 4096) page inside in
+    let first = within.0 in
+    let low : nat_le (table.base / 4096) page ≡ true = grind (arith, nat_tests, first) in
+    rw low (ap (bit_of table.bits) (unit-of (table.base / 4096) (table.unit / 4096) unit page within.0 within.1) ∙ set)
+
+not-false : (b : Bool) → not b ≡ false → b ≡ true
+not-false true h = refl
+not-false false h = cc
+
+fits-page : (map : List Descriptor) (table : Bits) (unit page : ℕ) → FitsTable map table → bit_of table.bits unit ≡ true → in_range (table.base / 4096 + unit * (table.unit / 4096)) (table.unit / 4096) page ≡ true → unaccepted_page map page ≡ true
+unfolding bad_unit
+fits-page map table unit page fits set inside =
+    let below = lt-of unit (unit_count table.bits) (first-both _ _ set) in
+    let end : unit < 0 + unit_count table.bits = omega (arith, below) in
+    let none = (first_such-None _ 0 (unit_count table.bits) fits.none_bad).fails unit (omega arith) end in
+    let whole : is_unaccepted_unit map table unit ≡ true = not-false _ (rw set at none) in
+    let within = in_range-elim (table.base / 4096 + unit * (table.unit / 4096)) (table.unit / 4096) page inside in
+    (each_such-true (unaccepted_page map) _ _ whole).passes page within.0 within.1
+
+-- the pages of a set unit are pending at first
+set-first : (map : List Descriptor) (hosts : List HostRun) (table : Option Bits) (slots areas cpus : ℕ) (boot : Boot) → MapRules map hosts → FitsGiven map table → Uncalled map hosts table slots areas cpus boot → (unit page : ℕ) → bit_of boot.bits unit ≡ true → in_range (unit_first boot unit) (unit_pages boot) page ≡ true → first_state_of boot.ram page ≡ Some Pending
+set-first map hosts None slots areas cpus boot rules fits plain unit page set inside =
+    let u = set-unit map hosts slots areas cpus boot plain unit page set inside in
+    plain.ram.each page ∙ pending_first map page (any_pending (stub_base map + unit * default_unit) page map rules.each u.0 u.1.low u.1.high (quarter _ u.1.even))
+set-first map hosts (Some table) slots areas cpus boot rules fits plain unit page set inside =
+    let below = lt-of unit (unit_count boot.bits) (first-both _ _ set) in
+    let is : bit_of table.bits unit ≡ true = sym (plain.bits unit below) ∙ set in
+    let here : in_range (table.base / 4096 + unit * (table.unit / 4096)) (table.unit / 4096) page ≡ true =
+    sym (ap (λ base. in_range (base / 4096 + unit * (boot.unit / 4096)) (boot.unit / 4096) page) plain.base ∙ ap (λ size. in_range (table.base / 4096 + unit * (size / 4096)) (size / 4096) page) plain.unit) ∙ inside in
+    plain.ram.each page ∙ rw (fits-page map table unit page fits is here, marked-at table unit page is here) refl
+
+record IsSize (pages : ℕ) : Type 0 where
+  pub some : 0 < pages
+  pub small : pages ≤ 512
+
+unit-size : (map : List Descriptor) (table : Option Bits) → FitsGiven map table → IsSize (unit_by table / 4096)
+unit-size map None fits = record { some = omega arith; small = omega arith }
+unit-size map (Some table) fits =
+    let facts = unit_facts table.unit fits.is_table.unit_is in
+    let some = facts.some in
+    let whole = facts.whole in
+    let small = facts.small in
+    record { some = omega arith; small = omega arith }
+
+pub is-booted : (map : List Descriptor) (hosts : List HostRun) (table : Option Bits) (slots areas cpus : ℕ) (boot : Boot) → MapRules map hosts → FitsGiven map table → Uncalled map hosts table slots areas cpus boot → cpus ≤ 64 → IsBooted boot
+is-booted map hosts table slots areas cpus boot rules fits plain few =
+    let size = subst (λ u. IsSize (u / 4096)) (sym plain.unit) (unit-size map table fits) in
     let many = plain.same_cpus in
     record {
-      pending = λ unit page set inside.
-          let u = set-unit map hosts slots areas cpus boot plain unit page set inside in
-          plain.ram.each page ∙ pending_first map page (any_pending (stub_base map + unit * default_unit) page map rules.each u.0 u.1.low u.1.high (quarter _ u.1.even));
-      low = λ page some. states-low map hosts rules page (λ none. some (plain.ram.each page ∙ none));
-      some = omega (arith, size);
-      small = omega (arith, size);
+      pending = set-first map hosts table slots areas cpus boot rules fits plain;
+      low = λ page some. states-low map hosts table rules page (λ none. some (plain.ram.each page ∙ none));
+      some = size.some;
+      small = size.small;
       cpus = omega (arith, many, few);
     }
 
-pub early-each : (map : List Descriptor) (hosts : List HostRun) (slots areas cpus : ℕ) (boot : Boot) (runs : List PageRun) → MapRules map hosts → Uncalled map hosts slots areas cpus boot → EarlyRuns map runs → All (λ (piece : PageRun). IsEarly boot piece.pages) runs
-early-each map hosts slots areas cpus boot runs rules plain early k d within = record {
+early-stub : (map : List Descriptor) (hosts : List HostRun) (slots areas cpus : ℕ) (boot : Boot) (runs : List PageRun) → MapRules map hosts → Uncalled map hosts None slots areas cpus boot → EarlyRuns map runs → All (λ (piece : PageRun). IsEarly boot piece.pages) runs
+early-stub map hosts slots areas cpus boot runs rules plain early k d within = record {
   pending = λ page inside. plain.ram.each page ∙ pending_first map page (early-held page map rules.each (early-at map runs k d page early within inside));
   apart = λ unit page set in_unit.
       elim (cases_Bool (in_range (get_or runs k d).pages.first (get_or runs k d).pages.count page)) [
@@ -152,43 +229,64 @@ early-each map hosts slots areas cpus boot runs rules plain early k d within = r
       ];
 }
 
+none-early : (boot : Boot) (runs : List PageRun) → runs ≡ [] → All (λ (piece : PageRun). IsEarly boot piece.pages) runs
+none-early boot runs none k d within = absurd (omega (arith, within, ap (λ (rs : List PageRun). length rs) none))
+
+-- the pieces are early ones; where a table is given there are none
+pub early-each : (descriptors : List Descriptor) (hosts : List HostRun) (table : Option Bits) (slots areas cpus : ℕ) (boot : Boot) (runs : List PageRun) → MapRules descriptors hosts → Uncalled descriptors hosts table slots areas cpus boot → EarlyRunsBy descriptors table runs → All (λ (piece : PageRun). IsEarly boot piece.pages) runs
+early-each descriptors hosts None slots areas cpus boot runs rules plain early = early-stub descriptors hosts slots areas cpus boot runs rules plain (record { pieces = early.pieces; early = early.early; are = early.are })
+early-each descriptors hosts (Some table) slots areas cpus boot runs rules plain early = none-early boot runs (early.are ∙ ap (λ ps. map pending_run ps) early.early)
+
 -- what is kept before the first call
 pub first-stands : (boot : Boot) (kept : Kept) → IsBooted boot → ((page : ℕ) → state_in kept.table.runs page ≡ state_in boot.ram page) → kept.table.out ≡ [] → BitsOf boot kept.bits → kept.calls.items ≡ [] → StandsAfter boot [] kept
 first-stands boot kept booted states out bits calls = record {
   states = λ page. states page ∙ state-same boot.ram page;
   none_out = out;
   bits = record { same = first-same boot kept.bits bits; set = λ unit. first-set boot kept.bits unit bits ∙ sym (first-bit boot unit booted.some) };
-  marks = λ unit page set inside. sym (ap is_pending (booted.pending unit page set inside));
+  marks = λ unit page set inside. (let was = sym (first-bit boot unit booted.some) ∙ set in was ∙ sym (ap is_pending (booted.pending unit page was inside)));
+  held = λ unit set. sym (first-bit boot unit booted.some) ∙ set;
   sound = tt;
   calls = calls;
 }
 
--- the recorded bitmap is the boot stub's
-pub record Marked (map : List Descriptor) (boot : Boot) : Type 0 where
-  pub unit : boot.unit ≡ default_unit
-  pub base : boot.base ≡ stub_base map
-  pub size : length boot.bits ≡ stub_length map
-  pub bits : (unit : ℕ) → unit < unit_count boot.bits → bit_of boot.bits unit ≡ stub_bit map unit
+-- the recorded bitmap is that of the table, or of the boot stub
+pub record Marked (map : List Descriptor) (table : Option Bits) (boot : Boot) : Type 0 where
+  pub unit : boot.unit ≡ unit_by table
+  pub base : boot.base ≡ base_by map table
+  pub size : length boot.bits ≡ length_by map table
+  pub bits : (unit : ℕ) → unit < unit_count boot.bits → bit_of boot.bits unit ≡ bit_by map table unit
 
-marked : (map : List Descriptor) (boot : Boot) (o : Option Bits) → StubBitmap map o → BitsOf boot o → Marked map boot
-marked map boot (Some b) stub same = record {
+stub-marked : (map : List Descriptor) (boot : Boot) (o : Option Bits) → StubBitmap map o → BitsOf boot o → Marked map None boot
+stub-marked map boot (Some b) stub same = record {
   unit = same.0 ∙ stub.unit;
   base = same.1 ∙ stub.base;
   size = ap (λ (bs : List ℕ). length bs) same.2 ∙ stub.size;
   bits = λ k lt. ap (λ bs. bit_of bs k) same.2 ∙ stub.each k;
 }
-marked map boot None stub same = record {
+stub-marked map boot None stub same = record {
   unit = same.0;
   base = same.1 ∙ sym (ap (λ ds. round_down default_unit (least_start ds)) stub);
   size = rw same.2 (rw stub refl);
   bits = λ k lt. absurd (omega (arith, lt, ap (λ (bs : List ℕ). length bs) same.2));
 }
 
-pub uncalled : (map : List Descriptor) (hosts : List HostRun) (areas cpus : ℕ) (ram : List PageRun) (bits : Option Bits) (boot : Boot) → AreMaximalRuns (first_state map) ram → StubBitmap map bits → IsFirstBoot hosts areas cpus ram bits boot → Uncalled map hosts 0 areas cpus boot
-uncalled map hosts areas cpus ram bits boot maximal stub first =
-    let mark = marked map boot bits stub first.bitmap in
+table-marked : (map : List Descriptor) (boot : Boot) (table : Bits) → BitsOf boot (Some table) → Marked map (Some table) boot
+table-marked map boot table same = record {
+  unit = same.0;
+  base = same.1;
+  size = ap (λ (bs : List ℕ). length bs) same.2;
+  bits = λ k lt. ap (λ bs. bit_of bs k) same.2;
+}
+
+marked : (map : List Descriptor) (table : Option Bits) (boot : Boot) (o : Option Bits) → BitmapBy map table o → BitsOf boot o → Marked map table boot
+marked map None boot o by same = stub-marked map boot o by same
+marked map (Some table) boot o by same = table-marked map boot table (subst (BitsOf boot) by same)
+
+pub uncalled : (map : List Descriptor) (hosts : List HostRun) (table : Option Bits) (areas cpus : ℕ) (ram : List PageRun) (bits : Option Bits) (boot : Boot) → AreMaximalRuns (first_by map table) ram → BitmapBy map table bits → IsFirstBoot hosts areas cpus ram bits boot → Uncalled map hosts table 0 areas cpus boot
+uncalled map hosts table areas cpus ram bits boot maximal by first =
+    let mark = marked map table boot bits by first.bitmap in
     record {
-      ram = subst (λ runs. AreMaximalRuns (first_state map) runs) (sym first.ram) maximal;
+      ram = subst (λ runs. AreMaximalRuns (first_by map table) runs) (sym first.ram) maximal;
       same_hosts = first.same_hosts;
       unit = mark.unit;
       base = mark.base;

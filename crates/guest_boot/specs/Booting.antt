@@ -10,7 +10,7 @@ use Rattle.event_core.specs.Boot.{runs_from}
 use Rattle.event_core.specs.Calls.{SoundCalls}
 use Rattle.event_core.specs.MemoryRows.{page_state}
 use Rattle.event_core.specs.Runs.{state_in as first_state_of}
-use Rattle.event_core.specs.Units.{bit_of, unit_first, unit_pages, units_end}
+use Rattle.event_core.specs.Units.{bit_of, bit_after, unit_first, unit_pages, units_end}
 use Rattle.page_module.specs.Spans.{Taken}
 use Rattle.page_module.specs.States.{state_in}
 use Rattle.page_module.specs.Tables.{Table}
@@ -22,12 +22,13 @@ use Rattle.guest_boot.specs.declared.accept.Kept.{Kept}
 -- What is kept of a guest while it boots.
 
 -- What is kept stands for the calls made so far: the states of pages and the bits of units are those after them, no page is out,
--- and each call found its pages in the state that it needs.
+-- no bit is set that wasn't at first, and each call found its pages in the state that it needs.
 pub record StandsAfter (boot : Boot) (done : List ModuleCall) (kept : Kept) : Type 0 where
   pub states : (page : ℕ) → state_in kept.table.runs page ≡ page_state boot done page
   pub none_out : kept.table.out ≡ []
   pub bits : BitsAfter boot done kept.bits
   pub marks : MarksArePending boot done
+  pub held : (unit : ℕ) → bit_after boot done unit ≡ true → bit_of boot.bits unit ≡ true
   pub sound : SoundCalls (first_state_of boot.ram) done
   pub calls : kept.calls.items ≡ done
 

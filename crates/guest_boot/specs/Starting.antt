@@ -1,26 +1,28 @@
-use Rattle.std.specs.Prelude.{ℕ, List, [], Option, None, Some, ◌≡◌, ◌<◌, ◌==◌, length, if◌then◌else◌}
+use Rattle.std.specs.Prelude.{ℕ, List, [], Option, None, Some, ◌≡◌, ◌<◌, ◌==◌, length, map, if◌then◌else◌}
 use Rattle.guest_base.specs.Requests.{raised_slots}
 use Rattle.guest_base.specs.declared.memory.HostRun.{HostRun}
+use Rattle.guest_base.specs.declared.memory.Pages.{Pages}
 use Rattle.guest_base.specs.declared.memory.PageRun.{PageRun}
 use Rattle.event_core.specs.declared.boot.Boot.{Boot}
 use Rattle.event_core.specs.declared.boot.Descriptor.{Descriptor}
 use Rattle.event_core.specs.Boot.{PoolPlaced}
-use Rattle.event_core.specs.Map.{first_state}
+use Rattle.event_core.specs.Given.{first_by, unit_by, base_by, length_by, bit_by, EarlyBy}
 use Rattle.event_core.specs.Runs.{AreMaximalRuns}
-use Rattle.event_core.specs.Stub.{default_unit, stub_base, stub_length, stub_bit}
+use Rattle.event_core.specs.Stub.{default_unit}
 use Rattle.event_core.specs.Units.{bit_of, unit_count}
 use Rattle.event_core.specs.Table.{Bits}
+use Rattle.unaccepted_bitmap.specs.StubMap.{StubBitmap, pending_run}
 
 -- What boot makes of a map before its first call.
 
 -- all but the calls is what boot makes of the map
-pub record Uncalled (map : List Descriptor) (hosts : List HostRun) (slots areas cpus : ℕ) (boot : Boot) : Type 0 where
-  pub ram : AreMaximalRuns (first_state map) boot.ram
+pub record Uncalled (map : List Descriptor) (hosts : List HostRun) (table : Option Bits) (slots areas cpus : ℕ) (boot : Boot) : Type 0 where
+  pub ram : AreMaximalRuns (first_by map table) boot.ram
   pub same_hosts : boot.hosts ≡ hosts
-  pub unit : boot.unit ≡ default_unit
-  pub base : boot.base ≡ stub_base map
-  pub bitmap : length boot.bits ≡ stub_length map
-  pub bits : (unit : ℕ) → unit < unit_count boot.bits → bit_of boot.bits unit ≡ stub_bit map unit
+  pub unit : boot.unit ≡ unit_by table
+  pub base : boot.base ≡ base_by map table
+  pub bitmap : length boot.bits ≡ length_by map table
+  pub bits : (unit : ℕ) → unit < unit_count boot.bits → bit_of boot.bits unit ≡ bit_by map table unit
   pub same_cpus : boot.cpus ≡ cpus
   pub same_areas : boot.areas ≡ areas
   pub raised : boot.slots ≡ (if slots == 0 then 0 else raised_slots slots areas)
@@ -41,3 +43,20 @@ pub record IsFirstBoot (hosts : List HostRun) (areas cpus : ℕ) (runs : List Pa
   pub same_areas : boot.areas ≡ areas
   pub pool : boot.pool ≡ None
   pub calls : boot.calls ≡ []
+
+-- the bitmap is the table, or where none is given the boot stub's
+abbrev pub BitmapBy : List Descriptor → Option Bits → Option Bits → Type 0
+BitmapBy map None bits = StubBitmap map bits
+BitmapBy map (Some table) bits = bits ≡ Some table
+
+-- the pieces that are accepted at once, each with the state Pending
+pub record EarlyRunsBy (descriptors : List Descriptor) (table : Option Bits) (runs : List PageRun) : Type 0 where
+  pub pieces : List Pages
+  pub early : EarlyBy descriptors table pieces
+  pub are : runs ≡ map pending_run pieces
+
+-- what boot begins with, of a map and the table where one is given: the runs of RAM, the bitmap and the pieces
+pub record BeginsWith (map : List Descriptor) (table : Option Bits) (ram : List PageRun) (bits : Option Bits) (pieces : List PageRun) : Type 0 where
+  pub maximal : AreMaximalRuns (first_by map table) ram
+  pub bitmap : BitmapBy map table bits
+  pub early : EarlyRunsBy map table pieces

@@ -6,12 +6,13 @@ ghost use Rattle.guest_base.specs.declared.memory.Page.{Page as PageValue};
 ghost use Rattle.guest_base.specs.declared.memory.Pages.{Pages as PagesValue};
 ghost use Rattle.guest_base.specs.declared.memory.PageRun.{PageRun as PageRunValue};
 ghost use Rattle.event_core.specs.Map.{MapRules};
+ghost use Rattle.event_core.specs.Given.{FitsGiven};
 ghost use Rattle.event_core.specs.Boot.{BootRight, InTurn, StagePart, stages_of};
 ghost use Rattle.event_core.specs.Cut.{cut};
 ghost use Rattle.memory_core.specs.Booted.{IsBooted};
 ghost use Rattle.unaccepted_bitmap.specs.StubMap.{pending_run};
 ghost use Rattle.guest_boot.specs.Booting.{StandsAfter, IsEarly};
-ghost use Rattle.guest_boot.specs.Starting.{IsFirstBoot};
+ghost use Rattle.guest_boot.specs.Starting.{IsFirstBoot, BeginsWith};
 ghost use Rattle.guest_boot.specs.Worlds.{WorldStands};
 ghost use Rattle.guest_boot.specs.Stopped.{BootStopped};
 
@@ -37,8 +38,9 @@ pub struct World {
     pub memory: Memory,
 }
 
-/// Boots a map without a pool. All module calls are made through `port`, which has made none: those of the early pieces, and then of
-/// the blocks below 4 MiB whose guarded units aren't all accepted, rising.
+/// Boots a map without a pool, over the table of an earlier kernel where one is handed in. The table is one that fits the map; there
+/// are at most 64 processors. All module calls are made through `port`, which has made none: those of the early pieces, of which
+/// there are none with a table, and then of the blocks smaller than 4 MiB whose guarded units aren't all accepted, rising.
 ///
 /// `Module` comes only where one of these acceptances stopped, so only where the port's count of faults rose; the port's calls are
 /// then boot's up to there.
@@ -46,23 +48,23 @@ pub struct World {
 pub fn boot<P: Port>(
     alloc: Global,
     map: &GuestMap,
+    table: Option<Bitmap>,
     areas: u32,
     cpus: u32,
     port: &mut P,
 ) -> Result<World, BootFault>
     requires rules { MapRules map.now.descriptors map.now.hosts }
+    requires fits { FitsGiven map.now.descriptors table }
     requires few { cpus ≤ 64 }
     requires unmade { P.made port.old ≡ [] }
-    ensures right { IfOk result (λ w. BootRight map.now.descriptors map.now.hosts 0 areas cpus w.boot) }
+    ensures right { IfOk result (λ w. BootRight map.now.descriptors map.now.hosts table 0 areas cpus w.boot) }
     ensures stands { IfOk result (λ w. WorldStands w) }
     ensures made { IfOk result (λ w. P.made port.new ≡ w.boot.calls) }
-    ensures stopped { (page : PageValue) → result ≡ Err (BootFault.Module page) → BootStopped map.now.descriptors map.now.hosts 0 areas cpus (P.made port.new) page }
+    ensures stopped { (page : PageValue) → result ≡ Err (BootFault.Module page) → BootStopped map.now.descriptors map.now.hosts table 0 areas cpus (P.made port.new) page }
     ensures failed { (page : PageValue) → result ≡ Err (BootFault.Module page) → Rose (P.faults port.old) (P.faults port.new) }
     ensures faults { P.faults port.old ≤ P.faults port.new }
 {
-    let ram = map.ram(alloc)?;
-    let bits = Bitmap::of_map(alloc, map)?;
-    let pieces = early(alloc, map)?;
+    let Given { ram, bits, pieces } = first_of(alloc, map, table)?;
     let blocks = cut_blocks(alloc, &ram)?;
     let table = PageTable::new(alloc, &ram)?;
     let mut boot = first_boot(alloc, &map.hosts, ram, &bits, areas, cpus)?;
@@ -83,6 +85,33 @@ pub fn boot<P: Port>(
     boot.calls = Items::from_vec(calls);
     let memory = Memory::new(alloc, &boot, table, bits)?;
     Ok(World { boot, memory })
+}
+
+/// What boot begins with: the runs of RAM by their first states, the bitmap, and the pieces that are accepted at once.
+#[derive(Drop)]
+struct Given {
+    ram: Runs,
+    bits: Option<Bitmap>,
+    pieces: Runs,
+}
+
+/// What boot begins with: by the table where one is given, and else by the map alone, as the boot stub leaves it.
+fn first_of(alloc: Global, map: &GuestMap, table: Option<Bitmap>) -> Result<Given, AllocError>
+    requires { MapRules map.now.descriptors map.now.hosts }
+    ensures { IfOk result (λ g. BeginsWith map.now.descriptors table g.ram g.bits g.pieces) }
+{
+    match table {
+        Some(table) => Ok(Given {
+            ram: table.ram(alloc, map)?,
+            bits: Some(table),
+            pieces: Runs::new(alloc),
+        }),
+        None => Ok(Given {
+            ram: map.ram(alloc)?,
+            bits: Bitmap::of_map(alloc, map)?,
+            pieces: early(alloc, map)?,
+        }),
+    }
 }
 
 /// What is recorded of a boot before its first call, where these are the bits of the unaccepted units.
