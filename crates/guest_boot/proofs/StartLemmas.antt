@@ -22,7 +22,7 @@ use Rattle.event_core.specs.Map.{MapRules, first_state, unaccepted_page, ram_pag
 use Rattle.event_core.specs.Given.{FitsGiven, first_by, unit_by, base_by, length_by, bit_by}
 use Rattle.event_core.specs.MemoryRows.{is_pending}
 use Rattle.event_core.specs.Runs.{AreMaximalRuns, GoesBefore, run_holds, run_end, state_in as first_state_of}
-use Rattle.event_core.specs.Stub.{default_unit, unaccepted, round_down, least_start, stub_base, stub_length, stub_bit}
+use Rattle.event_core.specs.Stub.{default_unit, unaccepted, round_down, least_start, stub_base, stub_bit}
 use Rattle.event_core.specs.Units.{bit_of, bit_after, unit_count, unit_first, unit_pages}
 use Rattle.event_core.proofs.MapLemmas.{first_none, any_pending, pending_first}
 use Rattle.page_module.specs.States.{state_in}
