@@ -67,7 +67,7 @@ abbrev pub SharesPool : Pages → List ModuleCall → Option Page → Type 0
 SharesPool pool calls None = calls ≡ share_call pool AnsweredOk ∷ []
 SharesPool pool calls (Some page) = (calls ≡ share_call pool Failed ∷ []) × (page.0 ≡ pool.first)
 
--- a block below order 10 is accepted; a greater one waits where it isn't
+-- a block below order 10 is accepted; for a block of order 10 no call is made
 abbrev pub AcceptsBlock : Boot → List ModuleCall → Block → List ModuleCall → Option Page → Type 0
 AcceptsBlock boot before block calls stop =
     elim (block.order == 10) as (λ _. Type 0) [

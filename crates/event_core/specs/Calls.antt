@@ -44,7 +44,7 @@ is_accept Give = false
 abbrev pub accepts_page : List ModuleCall → ℕ → Bool
 accepts_page calls page = list_any (λ (call : ModuleCall). is_accept call.kind && (is_done call && covers call page)) calls
 
--- whether calls give pages back to the host: the first one tells, since such a call stands alone
+-- whether calls give pages back to the host: the first one tells, since in a legal history such a call stands alone
 abbrev pub is_give : CallKind → Bool
 is_give Accept = false
 is_give Share = false
@@ -55,7 +55,7 @@ abbrev pub gives_back : List ModuleCall → Bool
 gives_back [] = false
 gives_back (call ∷ calls) = is_give call.kind
 
--- the state that a page has before a call, and after it where it was answered Ok (after the TDX guest)
+-- the state that a page has before a call, and after it where it was answered Ok (after the TDX guest; giving back is an own rule)
 abbrev pub state_before : CallKind → PageState
 state_before Accept = Pending
 state_before Share = Accepted
@@ -85,8 +85,8 @@ abbrev pub IsSound : States → ModuleCall → Type 0
 IsSound states call = (page : ℕ) → covers call page ≡ true → states page ≡ Some (state_before call.kind)
 
 -- Every call, whatever its answer, finds its pages in the state that it needs: Pending for accept, Accepted for share and for
--- give, Shared for unshare. So between two accepts of a page that were answered Ok there is an unshare of it that was, with a share
--- before it, or a give.
+-- give, Shared for unshare. So between two accepts of a page that were answered Ok there is a give of it that was, or a share and
+-- then an unshare that were.
 abbrev pub SoundCalls : States → List ModuleCall → Type 0
 SoundCalls states [] = Unit {0}
 SoundCalls states (call ∷ calls) = IsSound states call × SoundCalls (after_call states call) calls

@@ -20,14 +20,14 @@ pub record OpenClaim : Type 0 where
   pub units : Units
   -- the waiting block that it is for, if it is for one
   pub block : Option Block
-  -- its maximal runs of units with set bits, rising
+  -- its maximal runs of units whose bits were set when it began, rising
   pub runs : List Units
 
 -- what a value keeps for one processor; what it does not keep is none or empty
 pub record Part : Type 0 where
   -- the processor's open claim
   pub claim : Option OpenClaim
-  -- the block that it is converting between private and shared
+  -- the block that it is converting
   pub converting : Option Block
   -- the page ranges that are out with it, for calls of the secure module
   pub out : List Pages

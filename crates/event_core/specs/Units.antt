@@ -58,8 +58,8 @@ mark_step page marked call = if is_done call && covers call page then mark_made 
 abbrev pub is_marked : Bool → List ModuleCall → ℕ → Bool
 is_marked first calls page = fold (mark_step page) first calls
 
--- a unit's bit after calls (after Linux's bitmap of unaccepted units): a page of the unit is marked, where at first all pages of a
--- unit are marked whose bit is set; a unit outside the bitmap has a clear bit
+-- a unit's bit after calls: a page of the unit is marked, where at first exactly the pages of units with a set bit are marked; a
+-- unit outside the bitmap has a clear bit (after Linux's bitmap of unaccepted units; that giving back sets bits is an own rule)
 unfoldable pub bit_after : Boot → List ModuleCall → ℕ → Bool
 bit_after boot calls unit =
     elim (nat_lt unit (unit_count boot.bits)) as (λ _. Bool) [

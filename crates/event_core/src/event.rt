@@ -47,7 +47,7 @@ pub enum Event {
         page: Page,
         found: Found,
     },
-    /// A block is to become shared, private, which is Accepted, or given back, which is Pending.
+    /// `to` is Shared for a share, Accepted where the block becomes private, and Pending where it is given back.
     ConvertBegin {
         block: Block,
         to: PageState,

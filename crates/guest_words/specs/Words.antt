@@ -12,7 +12,7 @@ use Rattle.guest_words.specs.declared.place.Choice.TheVariants.{Slots, Areas, Ta
 use Rattle.guest_words.specs.declared.place.Place.{Place}
 use Rattle.guest_words.specs.declared.place.Place.TheVariants.{Open, Value, Ended}
 
--- The words of a run (own rule): `turns`, and then ORDER MAP SCRIPT, with options anywhere between them.
+-- The words of a run (own rule): `turns`, and then ORDER MAP SCRIPT, with options at any place behind `turns`.
 
 -- the ? of the logic: what follows, where there is a value
 infixl 10 ◌>>=◌
@@ -60,7 +60,7 @@ abbrev pub begins_with_dash : List ℕ → Bool
 begins_with_dash [] = false
 begins_with_dash (b ∷ bs) = b == 45
 
--- a word that is no option: a dash alone is none
+-- a word that is no option; a dash alone is none too
 abbrev pub is_plain : List ℕ → Bool
 is_plain word = not (begins_with_dash word) || bytes_eq word (codes "-")
 

@@ -22,7 +22,7 @@ pub struct Names<'a> {
 }
 
 /// What the words name. None exactly where they aren't in the grammar: `turns` and then ORDER MAP SCRIPT, with
-/// the options `--slots N`, `--areas N` and `--table FILE` among them, in any order, each at most once; `--slots=N`
+/// the options `--slots N`, `--areas N` and `--table FILE` at any place behind `turns`, each at most once; `--slots=N`
 /// is the same. `--` ends the options. No value begins with a dash. N of `--slots` has to be told, and to be 0;
 /// N of `--areas` is a power of two from 1 to 64, and 1 where none is told.
 pub fn read_words(words: &[String]) -> Option<Names<'_>>

@@ -22,7 +22,7 @@ header_of bytes = record { version = number 4 bytes; unit = number 4 (drop 4 byt
 abbrev pub refuse : TableFault → Bool → Option TableFault → Option TableFault
 refuse fault wrong others = if wrong then Some fault else others
 
--- the first thing that is wrong with the fields, behind which so many bytes stand
+-- the first thing that is wrong with the fields, behind which so many bytes stand (own rule: their order, and the bounds)
 abbrev pub header_fault : Header → ℕ → Option TableFault
 header_fault h left =
     refuse (BadVersion h.version) (not (h.version == 1))
