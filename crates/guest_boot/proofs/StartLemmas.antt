@@ -189,7 +189,7 @@ set-first map hosts (Some table) slots areas cpus boot rules fits plain unit pag
     let below = lt-of unit (unit_count boot.bits) (first-both _ _ set) in
     let is : bit_of table.bits unit ≡ true = sym (plain.bits unit below) ∙ set in
     let here : in_range (table.base / 4096 + unit * (table.unit / 4096)) (table.unit / 4096) page ≡ true =
-        sym (ap (λ base. in_range (base / 4096 + unit * (boot.unit / 4096)) (boot.unit / 4096) page) plain.base ∙ ap (λ size. in_range (table.base / 4096 + unit * (size / 4096)) (size / 4096) page) plain.unit) ∙ inside in
+    sym (ap (λ base. in_range (base / 4096 + unit * (boot.unit / 4096)) (boot.unit / 4096) page) plain.base ∙ ap (λ size. in_range (table.base / 4096 + unit * (size / 4096)) (size / 4096) page) plain.unit) ∙ inside in
     plain.ram.each page ∙ rw (fits-page map table unit page fits is here, marked-at table unit page is here) refl
 
 record IsSize (pages : ℕ) : Type 0 where

@@ -8,6 +8,7 @@ use guest_base::{Level, Page, Unit, Units};
 use page_module::MemPort;
 use std::alloc::Global;
 use std::test::Fail;
+use unaccepted_bitmap::read_table;
 
 /// The map with these descriptors, each of them a type, a start in bytes and a number of pages.
 fn map_of(alloc: Global, descriptors: &[(u32, u64, u64)]) -> Result<GuestMap, Fail>
@@ -42,11 +43,41 @@ fn whole_blocks_wait(rt: HostRuntime) -> Result<(), Fail> {
     let alloc = rt.alloc();
     let map = map_of(alloc, &[(7, 0, 1024), (15, 0x40_0000, 2048)])?;
     let mut port = MemPort::new(alloc, Vec::new(alloc));
-    let world = boot(alloc, &map, None, 4, 2, &mut port).ok().ok_or("no world")?;
+    let world = boot(alloc, &map, None, 4, 2, &mut port)
+        .ok()
+        .ok_or("no world")?;
     assert!(rt; world.boot.calls.is_empty());
     assert_eq!(rt; (world.boot.areas, world.boot.cpus), (4, 2));
     let units = Units { first: 0, count: 4 };
     assert_eq!(rt; world.memory.next_run(Unit(0), Unit(8)), Some(units));
+    Ok(())
+}
+
+/// The fields of a table: version 1, units of 4 KiB from 4 MiB on, and 256 bytes of bits.
+const PAGE_UNITS: [u8; 24] = [
+    1, 0, 0, 0, 0, 0x10, 0, 0, 0, 0, 0x40, 0, 0, 0, 0, 0, 0, 1, 0, 0, 0, 0, 0, 0,
+];
+
+#[test]
+fn a_table_says_what_is_unaccepted(rt: HostRuntime) -> Result<(), Fail> {
+    let alloc = rt.alloc();
+    let map = map_of(alloc, &[(7, 0, 1024), (15, 0x40_0000, 2048)])?;
+    let mut bytes = Vec::from_slice(alloc, &PAGE_UNITS)?;
+    bytes.extend_from_slice(&[0; 64])?;
+    bytes.extend_from_slice(&[0xff; 192])?;
+    let table = read_table(alloc, bytes.as_slice())?;
+    let table = table.fit(&map).ok().ok_or("a bad bit")?;
+    let mut port = MemPort::new(alloc, Vec::new(alloc));
+    let world = boot(alloc, &map, Some(table), 4, 2, &mut port)
+        .ok()
+        .ok_or("no world")?;
+    assert!(rt; world.boot.calls.is_empty());
+    assert_eq!(rt; world.boot.unit, 4096);
+    let units = Units {
+        first: 512,
+        count: 1536,
+    };
+    assert_eq!(rt; world.memory.next_run(Unit(0), Unit(2048)), Some(units));
     Ok(())
 }
 
@@ -55,7 +86,9 @@ fn short_descriptors_are_accepted(rt: HostRuntime) -> Result<(), Fail> {
     let alloc = rt.alloc();
     let map = map_of(alloc, &[(7, 0, 1024), (15, 0x40_0000, 1023)])?;
     let mut port = MemPort::new(alloc, Vec::new(alloc));
-    let world = boot(alloc, &map, None, 1, 1, &mut port).ok().ok_or("no world")?;
+    let world = boot(alloc, &map, None, 1, 1, &mut port)
+        .ok()
+        .ok_or("no world")?;
     let mut calls = vec![in alloc; accepted(0x400, Level::Large)]?;
     for page in 0x600..0x7ff {
         calls.push(accepted(page, Level::Small))?;
@@ -70,7 +103,9 @@ fn small_blocks_are_accepted(rt: HostRuntime) -> Result<(), Fail> {
     let alloc = rt.alloc();
     let map = map_of(alloc, &[(15, 0x40_0000, 2560)])?;
     let mut port = MemPort::new(alloc, Vec::new(alloc));
-    let world = boot(alloc, &map, None, 1, 1, &mut port).ok().ok_or("no world")?;
+    let world = boot(alloc, &map, None, 1, 1, &mut port)
+        .ok()
+        .ok_or("no world")?;
     let calls = [accepted(0xc00, Level::Large)];
     assert_eq!(rt; world.boot.calls.as_slice(), calls.as_slice());
     let units = Units { first: 0, count: 4 };
@@ -83,7 +118,9 @@ fn stops_where_the_module_fails(rt: HostRuntime) -> Result<(), Fail> {
     let alloc = rt.alloc();
     let map = map_of(alloc, &[(15, 0x40_0000, 1023)])?;
     let mut port = MemPort::new(alloc, vec![in alloc; 3]?);
-    let fault = boot(alloc, &map, None, 1, 1, &mut port).err().ok_or("a world")?;
+    let fault = boot(alloc, &map, None, 1, 1, &mut port)
+        .err()
+        .ok_or("a world")?;
     assert_eq!(rt; fault, BootFault::Module(Page(0x601)));
     Ok(())
 }

@@ -38,7 +38,8 @@ pub struct World {
     pub memory: Memory,
 }
 
-/// Boots a map, and the table of an earlier kernel where one is handed in, without a pool. All module calls are made through `port`, which has made none: those of the early pieces, of which
+/// Boots a map without a pool, over the table of an earlier kernel where one is handed in. The table is one that fits the map; there
+/// are at most 64 processors. All module calls are made through `port`, which has made none: those of the early pieces, of which
 /// there are none with a table, and then of the blocks smaller than 4 MiB whose guarded units aren't all accepted, rising.
 ///
 /// `Module` comes only where one of these acceptances stopped, so only where the port's count of faults rose; the port's calls are

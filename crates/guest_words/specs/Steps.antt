@@ -22,7 +22,12 @@ plain_words (Map order map) = order.now ∷ map.now ∷ []
 plain_words (Script order map script) = order.now ∷ map.now ∷ script.now ∷ []
 
 abbrev pub told : SoFar → Told
-told so_far = record { plain = plain_words so_far.files; slots = listed so_far.slots; areas = listed so_far.areas; table = listed so_far.table }
+told so_far = record {
+  plain = plain_words so_far.files;
+  slots = listed so_far.slots;
+  areas = listed so_far.areas;
+  table = listed so_far.table;
+}
 
 abbrev pub standing : Option SoFar → Option (Place × Told)
 standing None = None
@@ -30,11 +35,14 @@ standing (Some so_far) = Some (so_far.place, told so_far)
 
 -- at most three plain words, and each option once
 abbrev pub is_small : Told → Bool
-is_small t = nat_le (length t.plain) 3 && (nat_le (length t.slots) 1 && (nat_le (length t.areas) 1 && nat_le (length t.table) 1))
+is_small t =
+    nat_le (length t.plain) 3
+    && (nat_le (length t.slots) 1 && (nat_le (length t.areas) 1 && nat_le (length t.table) 1))
 
 -- what is told and the next word's place after one more word, while that is small
 abbrev pub told_after : Told → Place × Told → Option (Place × Told)
-told_after before part = if is_small (joined before part.1) then Some (part.0, joined before part.1) else None
+told_after before part =
+    if is_small (joined before part.1) then Some (part.0, joined before part.1) else None
 
 abbrev pub value_of : Choice → Told → List ℕ → Option (Place × Told)
 value_of choice before value = value_part choice value >>= told_after before

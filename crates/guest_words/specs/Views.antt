@@ -3,14 +3,20 @@ use Rattle.std.specs.Borrow.{Bor}
 use Rattle.guest_words.specs.declared.words.Names.{Names}
 use Rattle.guest_words.specs.Words.{Named}
 
--- what is read, as lists of bytes
+-- What is read, as lists of bytes.
 
 abbrev pub text_in : Option (Bor (List ℕ)) → Option (List ℕ)
 text_in None = None
 text_in (Some text) = Some text.now
 
 abbrev pub seen : Names → Named
-seen names = record { order = names.order.now; areas = names.areas; table = text_in names.table; map = names.map.now; script = names.script.now }
+seen names = record {
+  order = names.order.now;
+  areas = names.areas;
+  table = text_in names.table;
+  map = names.map.now;
+  script = names.script.now;
+}
 
 abbrev pub named : Option Names → Option Named
 named None = None

@@ -35,7 +35,12 @@ abbrev pub nothing : Told
 nothing = record { plain = []; slots = []; areas = []; table = [] }
 
 abbrev pub joined : Told → Told → Told
-joined a b = record { plain = a.plain ++ b.plain; slots = a.slots ++ b.slots; areas = a.areas ++ b.areas; table = a.table ++ b.table }
+joined a b = record {
+  plain = a.plain ++ b.plain;
+  slots = a.slots ++ b.slots;
+  areas = a.areas ++ b.areas;
+  table = a.table ++ b.table;
+}
 
 abbrev pub plain_word : List ℕ → Told
 plain_word word = record nothing { plain = word ∷ [] }
@@ -47,7 +52,11 @@ valued Table value = record nothing { table = value ∷ [] }
 
 -- the option of a name
 abbrev pub choice_of : List ℕ → Option Choice
-choice_of name = if bytes_eq name (codes "--slots") then Some Slots else if bytes_eq name (codes "--areas") then Some Areas else if bytes_eq name (codes "--table") then Some Table else None
+choice_of name =
+    if bytes_eq name (codes "--slots") then Some Slots
+    else if bytes_eq name (codes "--areas") then Some Areas
+    else if bytes_eq name (codes "--table") then Some Table
+    else None
 
 -- a word's text before its first `=`, and what stands behind that
 abbrev pub name_in : List ℕ → List ℕ
@@ -60,12 +69,12 @@ abbrev pub begins_with_dash : List ℕ → Bool
 begins_with_dash [] = false
 begins_with_dash (b ∷ bs) = b == 45
 
--- a word that is no option; a dash alone is none too
+-- a word that is no option: one that begins with no dash, as the empty word, and a dash alone
 abbrev pub is_plain : List ℕ → Bool
 is_plain word = not (begins_with_dash word) || bytes_eq word (codes "-")
 
--- What a word tells where it stands, and where the next word stands. None where it may not stand there: the value of an option
--- begins with no dash, and a word that begins with one is an option, `--`, or a dash alone.
+-- What a word tells where it stands, and where the next word stands. None where it may not stand there: the value
+-- of an option begins with no dash, and a word that begins with one is an option, `--`, or a dash alone.
 abbrev pub value_part : Choice → List ℕ → Option (Place × Told)
 value_part choice value = if begins_with_dash value then None else Some (Open, valued choice value)
 
@@ -109,7 +118,8 @@ abbrev pub areas_in : Option ℕ → Option ℕ
 areas_in None = None
 areas_in (Some count) = if is_areas count then Some count else None
 
--- the areas of the pool; where none are told, the number of scripts raised to a power of two (after swiotlb.c)
+-- the areas of the pool; where none are told, the number of scripts, raised to a power of two
+-- (after swiotlb.c)
 abbrev pub areas_of : ℕ → List (List ℕ) → Option ℕ
 areas_of scripts [] = Some (raised_to_power scripts)
 areas_of scripts (value ∷ []) = areas_in (number_of value)
@@ -131,7 +141,8 @@ pub record Named : Type 0 where
 
 -- ORDER MAP SCRIPT; more scripts aren't built
 abbrev pub files_of : ℕ → Option (List ℕ) → List (List ℕ) → Option Named
-files_of areas table (order ∷ map ∷ script ∷ []) = Some (record { order = order; areas = areas; table = table; map = map; script = script })
+files_of areas table (order ∷ map ∷ script ∷ []) =
+    Some (record { order = order; areas = areas; table = table; map = map; script = script })
 files_of areas table _ = None
 
 -- a pool isn't built: only no slots

@@ -1,4 +1,4 @@
-use Rattle.std.proofs.Common.{◌≡◌, ◌≢◌, ℕ, ◌+◌, ◌-◌, ◌*◌, ◌^◌, ◌<◌, ◌≤◌, Bool, true, false, Option, None, Some, List, [], ◌∷◌, ◌++◌, refl, sym, ◌∙◌, ap, subst, arith, cond}
+use Rattle.std.proofs.Common.{◌≡◌, ◌≢◌, ℕ, ◌+◌, ◌-◌, ◌*◌, ◌^◌, ◌<◌, ◌≤◌, true, false, Option, None, Some, List, [], ◌∷◌, ◌++◌, refl, sym, ◌∙◌, ap, subst, arith, cond}
 use Rattle.std.specs.Prelude.{◌==◌, drop}
 use Rattle.std.proofs.Math.Nat.{mul-le-mul_right}
 use Rattle.guest_base.specs.Ranges.{in_range}
@@ -10,7 +10,7 @@ use Rattle.event_core.specs.declared.boot.Boot.{Boot}
 use Rattle.event_core.specs.declared.module_call.ModuleCall.{ModuleCall}
 use Rattle.event_core.specs.Claims.{Claimed, goes_on, units_meet}
 use Rattle.event_core.specs.MemoryRows.{page_state, is_pending, pages_first, pages_count, next_run}
-use Rattle.event_core.specs.Units.{bit_after, unit_first, unit_pages, units_end, units_cleared, first_run}
+use Rattle.event_core.specs.Units.{bit_after, unit_first, unit_pages, units_end, units_cleared}
 use Rattle.page_module.specs.Spans.{Taken}
 use Rattle.page_module.specs.States.{state_in}
 use Rattle.page_module.specs.Tables.{Table, is_out, without, run_count}

@@ -50,7 +50,13 @@ pub(crate) fn take_claim(claims: &mut Vec<Option<OpenClaim>>, cpu: CpuNo) -> Ope
 pub(crate) fn with_next(claim: OpenClaim, run: Units, cleared: u64, ticket: Ticket) -> OpenClaim
     requires opened { claim.opened < length claim.later.items }
     requires room { run.count ≤ claim.room }
-    ensures { result ≡ record claim { run = run; opened = claim.opened + 1; cleared = cleared; ticket = ticket; room = claim.room - run.count } }
+    ensures { result ≡ record claim {
+      run = run;
+      opened = claim.opened + 1;
+      cleared = cleared;
+      ticket = ticket;
+      room = claim.room - run.count;
+    } }
 {
     OpenClaim {
         units: claim.units,

@@ -95,7 +95,8 @@ impl Model for Memory {
 
     ghost view = { λ m. record { boot = m.boot.value; entries = m.entries.items; out = map handed_for m.claims.items; room = m.room } };
 
-    ghost invariant = { λ m. StandsFor m.boot.value m.entries m.last m.table m.bits m.accepting m.claims.items m.unit_pages m.kept m.room × IsSpare m.spare m.room };
+    ghost invariant = { λ m. StandsFor m.boot.value m.entries m.last m.table m.bits m.accepting m.claims.items m.unit_pages m.kept m.room
+        × IsSpare m.spare m.room };
 }
 
 impl Memory {

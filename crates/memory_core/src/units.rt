@@ -3,7 +3,7 @@ ghost use Rattle.std.specs.Prelude.{◌≡◌, ℕ, [], ◌+◌, ◌-◌, ◌^�
 ghost use Rattle.std.specs.Option.{ForSome, option_and_then};
 ghost use Rattle.guest_base.specs.Search.{count_such};
 ghost use Rattle.guest_base.specs.declared.memory.Units.{Units};
-ghost use Rattle.event_core.specs.Units.{first_run};
+ghost use Rattle.event_core.specs.Units.{first_run, units_end};
 ghost use Rattle.accepting_ranges.specs.Claims.{range_of, MeetsNone, IsFirstToMeet};
 ghost use Rattle.memory_core.specs.Bitmaps.{bits_in, guarded_by, both_or_none, any_in, MeetsNoneOf, IsFirstMet, AreRunsFrom};
 
@@ -78,13 +78,15 @@ pub(crate) fn overlap_of(accepting: &Accepting, units: Option<Units>) -> Option<
     }
 }
 
-/// Writes the maximal runs of unaccepted units behind a run of units into an empty list that has room for as many.
+/// Writes the maximal runs of unaccepted units behind a run among units into an empty list, which has room for as many as there are
+/// unaccepted units behind it.
 pub(crate) fn runs_behind(bits: &Option<Bitmap>, units: Units, run: Units, runs: &mut Vec<Units>)
     requires units { units.first + units.count < 2 ^ 64 }
     requires run { run.first + run.count ≤ units.first + units.count }
     requires empty { runs.old.items ≡ [] }
-    requires room { count_such (bits_in bits.now) (run.first + run.count) (units.first + units.count - (run.first + run.count)) ≤ vec_capacity runs.old }
-    ensures { AreRunsFrom (bits_in bits.now) (run.first + run.count) (units.first + units.count) runs.new.items }
+    requires room { count_such (bits_in bits.now) (units_end run) (units_end units - units_end run)
+        ≤ vec_capacity runs.old }
+    ensures { AreRunsFrom (bits_in bits.now) (units_end run) (units_end units) runs.new.items }
 {
     let end = units.first + units.count;
     let mut at = run.first + run.count;

@@ -3,7 +3,7 @@ ghost use Rattle.std.specs.Prelude.{◌<◌};
 use crate::{BadBit, Bitmap, TableFault, early, read_table};
 use efi_map::read_map;
 use guest_base::{PageRun, PageState, Pages, Unit, Units};
-use std::alloc::Global;
+use std::alloc::{AllocError, Global};
 use std::test::Fail;
 
 /// Conventional memory below 4 MiB, and 8 MiB of unaccepted memory behind it.
@@ -136,23 +136,24 @@ fn reads_a_table(rt: HostRuntime) -> Result<(), Fail> {
     Ok(())
 }
 
-/// A table of units of 4 KiB from 4 MiB on: the bits of the first 512 units are clear, those of the 1,536 units behind them set.
-fn small_units() -> [u8; 280] {
-    let mut table = [0; 280];
-    table[0] = 1;
-    table[5] = 0x10;
-    table[10] = 0x40;
-    table[17] = 1;
-    for at in 88..280usize {
-        table[at] = 0xff;
+/// The fields of a table of 2,048 units of 4 KiB from 4 MiB on.
+const SMALL_UNITS: [u8; 24] = [
+    1, 0, 0, 0, 0, 0x10, 0, 0, 0, 0, 0x40, 0, 0, 0, 0, 0, 0, 1, 0, 0, 0, 0, 0, 0,
+];
+
+/// The table of these fields: the bits of the first 512 units are clear, those of the 1,536 units behind them set.
+fn small_units(alloc: Global) -> Result<Vec<u8>, AllocError> {
+    let mut table = Vec::from_slice(alloc, &SMALL_UNITS)?;
+    for at in 0..256u32 {
+        table.push(if at < 64 { 0 } else { 0xff })?;
     }
-    table
+    Ok(table)
 }
 
 #[test]
 fn fits_small_units(rt: HostRuntime) -> Result<(), Fail> {
     let map = read_map(rt.alloc(), &FOUR_UNITS)?;
-    let bitmap = read_table(rt.alloc(), &small_units())?;
+    let bitmap = read_table(rt.alloc(), &small_units(rt.alloc())?)?;
     assert_eq!(rt; bitmap.unit(), 0x1000);
     let bitmap = bitmap.fit(&map).ok().ok_or("a bad bit")?;
     let runs = bitmap.ram(rt.alloc(), &map)?;

@@ -1,4 +1,4 @@
-use Rattle.std.proofs.Common.{◌≡◌, Some, ◌+◌, ◌-◌, ◌<◌, sym, ◌∙◌, arith}
+use Rattle.std.proofs.Common.{◌+◌, ◌-◌, ◌<◌, sym, ◌∙◌, arith}
 use Rattle.memory_core.specs.Bitmaps.{bits_in}
 use Rattle.memory_core.proofs.KeptLemmas.{written-start, written-more, written-end, written-free}
 use Rattle.memory_core.proofs.UnitsLemmas.{first_run-facts}
