@@ -4,45 +4,63 @@ use Rattle.guest_base.specs.Counts.{Rose}
 use Rattle.event_core.specs.declared.module_call.ModuleCall.{ModuleCall}
 use Rattle.guest_run.specs.declared.stop.Cause.{Cause}
 use Rattle.guest_run.specs.declared.stop.InputFile.{InputFile}
-use Rattle.guest_run.specs.declared.stop.InputFile.TheVariants.{Order, Map, Script}
+use Rattle.guest_run.specs.declared.stop.InputFile.TheVariants.{Order, Map, Table, Script}
 use Rattle.guest_run.specs.declared.stop.Stop.{Stop}
 use Rattle.guest_run.specs.declared.stop.Stop.TheVariants.{Refused, NotRead, Module, NoMemory}
-use Rattle.guest_run.specs.Causes.{cause_of, IsGood, IsToldGood, IsRefused, IsToldRefused}
-use Rattle.guest_run.specs.Endings.{names_to, AreGood, AreToldGood, AsksFront, BootStops, IsMapOf, Put, PutFront, RefusesFirstOf, SaysRefused, SaysNotRead, SaysBootStopped}
+use Rattle.guest_run.specs.Causes.{cause_by, HasCause, IsToldCause, IsGood, IsToldGood, IsRefused, IsToldRefused}
+use Rattle.guest_run.specs.Endings.{names_of, names_to, AreGood, AreToldGood, AsksFront, BootStops, IsGiven, Put, PutFront, RefusesFirstOf, SaysRefused, SaysNotRead, SaysBootStopped}
 use Rattle.guest_run.specs.Ends.{IsKnown}
 use Rattle.guest_run.specs.Stopping.{BootFails, EndsWith, StopEnds, Stopped}
 use Rattle.guest_run.specs.Stops.{name_of, refused_line, boot_line, stop_line, status_of}
-use Rattle.guest_run.specs.Words.{Named}
-use Rattle.guest_run.proofs.InputLemmas.{front_to}
+use Rattle.guest_words.specs.Words.{Named}
+use Rattle.guest_run.proofs.InputLemmas.{front_to, asks_all}
 use Rattle.efi_map.specs.declared.map.GuestMap.{GuestMap}
+use Rattle.efi_map.specs.MapFile.{map_of}
+use Rattle.event_core.specs.Table.{Bits}
 
 -- ---- a file that is refused, and what is told
 
-no_cause : {A : Type 0} (cause : Cause) (of : Option Cause) → of ≡ Some cause → of ≡ None → A
-no_cause cause of some none = let no : Some cause ≡ None = sym some ∙ none in cc
+one_map : (bytes : List ℕ) (a b : GuestMap) → map_of bytes ≡ Ok a → map_of bytes ≡ Ok b → a ≡ b
+one_map bytes a b is that = let e : Ok a ≡ Ok b = sym is ∙ that in cc
+
+-- the cause of a file is the one that it is told to have
+same_cause : (holds : List ℕ → Option (List ℕ)) (named : Named) (file : InputFile) (a b : Option Cause) → HasCause holds named file a → IsToldCause holds named file b → a ≡ b
+same_cause holds named Order a b has told = sym (has told.0 told.1) ∙ told.2
+same_cause holds named Map a b has told = sym (has told.0 told.1) ∙ told.2
+same_cause holds named Table a b has told =
+    let same : has.0 ≡ told.2 = one_map told.0 has.0 told.2 (has.1 told.0 told.3) told.4 in
+    sym (has.2 told.1 told.5) ∙ ap (λ (m : GuestMap). cause_by m.descriptors told.1) same ∙ told.6
+same_cause holds named Script a b has told = sym (has told.0 told.1) ∙ told.2
 
 -- a file that is told to be good isn't refused
 told_good : {A : Type 0} (holds : List ℕ → Option (List ℕ)) (named : Named) (file : InputFile) (cause : Cause) → IsRefused holds named file cause → IsToldGood holds named file → A
-told_good holds named file cause refused good = no_cause cause (cause_of file good.0) (refused.own good.0 good.1) good.2
+told_good holds named file cause refused good = let no : Some cause ≡ None = same_cause holds named file (Some cause) None refused.own (good refused.is_named) in cc
 
 -- a file that is good wherever it is told isn't told to be refused
 pub good_told : {A : Type 0} (holds : List ℕ → Option (List ℕ)) (named : Named) (file : InputFile) (cause : Cause) → IsGood holds named file → IsToldRefused holds named file cause → A
-good_told holds named file cause good refused = no_cause cause (cause_of file refused.bytes) refused.own (good refused.bytes refused.told)
+good_told holds named file cause good refused = let no : None ≡ Some cause = same_cause holds named file None (Some cause) good refused.own in cc
 
 -- only one file is the first that is refused, for one cause
-same_cause : (holds : List ℕ → Option (List ℕ)) (named : Named) (file : InputFile) (a b : Cause) → IsRefused holds named file a → IsToldRefused holds named file b → a ≡ b
-same_cause holds named file a b refused told = let e : Some a ≡ Some b = sym (refused.own told.bytes told.told) ∙ told.own in cc
+one_cause : (holds : List ℕ → Option (List ℕ)) (named : Named) (file : InputFile) (a b : Cause) → IsRefused holds named file a → IsToldRefused holds named file b → a ≡ b
+one_cause holds named file a b refused told = let e : Some a ≡ Some b = same_cause holds named file (Some a) (Some b) refused.own told.own in cc
 
 same_first : (holds : List ℕ → Option (List ℕ)) (named : Named) (at file : InputFile) (a b : Cause) → IsRefused holds named at a → IsToldRefused holds named file b → (at ≡ file) × (a ≡ b)
-same_first holds named Order Order a b refused told = (refl, same_cause holds named Order a b refused told)
+same_first holds named Order Order a b refused told = (refl, one_cause holds named Order a b refused told)
 same_first holds named Order Map a b refused told = told_good holds named Order a refused told.before
+same_first holds named Order Table a b refused told = told_good holds named Order a refused told.before.0
 same_first holds named Order Script a b refused told = told_good holds named Order a refused told.before.0
 same_first holds named Map Order a b refused told = good_told holds named Order b refused.before told
-same_first holds named Map Map a b refused told = (refl, same_cause holds named Map a b refused told)
+same_first holds named Map Map a b refused told = (refl, one_cause holds named Map a b refused told)
+same_first holds named Map Table a b refused told = told_good holds named Map a refused told.before.1
 same_first holds named Map Script a b refused told = told_good holds named Map a refused told.before.1
+same_first holds named Table Order a b refused told = good_told holds named Order b refused.before.0 told
+same_first holds named Table Map a b refused told = good_told holds named Map b refused.before.1 told
+same_first holds named Table Table a b refused told = (refl, one_cause holds named Table a b refused told)
+same_first holds named Table Script a b refused told = told_good holds named Table a refused told.before.2
 same_first holds named Script Order a b refused told = good_told holds named Order b refused.before.0 told
 same_first holds named Script Map a b refused told = good_told holds named Map b refused.before.1 told
-same_first holds named Script Script a b refused told = (refl, same_cause holds named Script a b refused told)
+same_first holds named Script Table a b refused told = good_told holds named Table b refused.before.2 told
+same_first holds named Script Script a b refused told = (refl, one_cause holds named Script a b refused told)
 
 -- ---- a line
 
@@ -83,7 +101,7 @@ refused_of made faults ports_before ports_after holds named faults_before faults
 -- status 4
 pub not_read_of : {P : Type 0} (made : P → List ModuleCall) (faults : P → ℕ) (ports_before ports_after : List P) (holds : List ℕ → Option (List ℕ)) (named : Named) (faults_before faults_after : ℕ) (asked_before asked_after : List (List ℕ)) (before after : Option (List ℕ)) (sink_before sink_after : ℕ) (stop : Stop) (ended : ℕ) → Stopped holds named faults_before faults_after asked_before asked_after (BootStops made faults ports_before ports_after holds named) stop → StopEnds before after sink_before sink_after named stop ended → ended ≡ 4 → SaysNotRead faults_before faults_after asked_before asked_after (Put before after) named
 not_read_of made faults ports_before ports_after holds named faults_before faults_after asked_before asked_after before after sink_before sink_after (Refused file cause) ended stopped ends is = never before after sink_before sink_after (stop_line named (Refused file cause)) 3 ended 4 ends is (λ e. omega (arith, e)) (λ e. omega (arith, e)) (λ e. omega (arith, e))
-not_read_of made faults ports_before ports_after holds named faults_before faults_after asked_before asked_after before after sink_before sink_after (NotRead file) ended stopped ends is = (file, stopped.0, stopped.1, put_of before after sink_before sink_after (stop_line named (NotRead file)) 4 ended ends is (λ e. omega (arith, e)) (λ e. omega (arith, e)))
+not_read_of made faults ports_before ports_after holds named faults_before faults_after asked_before asked_after before after sink_before sink_after (NotRead file) ended stopped ends is = (file, stopped.0, stopped.1, stopped.2, put_of before after sink_before sink_after (stop_line named (NotRead file)) 4 ended ends is (λ e. omega (arith, e)) (λ e. omega (arith, e)))
 not_read_of made faults ports_before ports_after holds named faults_before faults_after asked_before asked_after before after sink_before sink_after Module ended stopped ends is = never before after sink_before sink_after boot_line 7 ended 4 ends is (λ e. omega (arith, e)) (λ e. omega (arith, e)) (λ e. omega (arith, e))
 not_read_of made faults ports_before ports_after holds named faults_before faults_after asked_before asked_after before after sink_before sink_after NoMemory ended stopped ends is = absurd (omega (arith, ends, is))
 
@@ -97,7 +115,7 @@ boot_stopped_of made faults ports_before ports_after holds named faults_before f
 -- status 5
 pub cut_line_of : {P : Type 0} (made : P → List ModuleCall) (faults : P → ℕ) (ports_before ports_after : List P) (holds : List ℕ → Option (List ℕ)) (named : Named) (faults_before faults_after : ℕ) (asked_before asked_after : List (List ℕ)) (before after : Option (List ℕ)) (sink_before sink_after : ℕ) (stop : Stop) (ended : ℕ) → Stopped holds named faults_before faults_after asked_before asked_after (BootStops made faults ports_before ports_after holds named) stop → StopEnds before after sink_before sink_after named stop ended → ended ≡ 5 → SaysRefused holds (PutFront before after) named ⊎ SaysNotRead faults_before faults_after asked_before asked_after (PutFront before after) named ⊎ SaysBootStopped made faults ports_before ports_after holds (PutFront before after) named
 cut_line_of made faults ports_before ports_after holds named faults_before faults_after asked_before asked_after before after sink_before sink_after (Refused file cause) ended stopped ends is = inl (file, cause, stopped.0, (front_of before after sink_before sink_after (stop_line named (Refused file cause)) 3 ended ends is (λ e. omega (arith, e))).1)
-cut_line_of made faults ports_before ports_after holds named faults_before faults_after asked_before asked_after before after sink_before sink_after (NotRead file) ended stopped ends is = inr (inl (file, stopped.0, stopped.1, (front_of before after sink_before sink_after (stop_line named (NotRead file)) 4 ended ends is (λ e. omega (arith, e))).1))
+cut_line_of made faults ports_before ports_after holds named faults_before faults_after asked_before asked_after before after sink_before sink_after (NotRead file) ended stopped ends is = inr (inl (file, stopped.0, stopped.1, stopped.2, (front_of before after sink_before sink_after (stop_line named (NotRead file)) 4 ended ends is (λ e. omega (arith, e))).1))
 cut_line_of made faults ports_before ports_after holds named faults_before faults_after asked_before asked_after before after sink_before sink_after Module ended stopped ends is = inr (inr (stopped.0, (front_of before after sink_before sink_after boot_line 7 ended ends is (λ e. omega (arith, e))).1))
 cut_line_of made faults ports_before ports_after holds named faults_before faults_after asked_before asked_after before after sink_before sink_after NoMemory ended stopped ends is = absurd (omega (arith, ends, is))
 
@@ -125,7 +143,7 @@ other_of made faults ports_before ports_after holds named faults_before faults_a
 -- the names that were asked for
 pub asked_of : {P : Type 0} (made : P → List ModuleCall) (faults : P → ℕ) (ports_before ports_after : List P) (holds : List ℕ → Option (List ℕ)) (named : Named) (faults_before faults_after : ℕ) (asked_before asked_after : List (List ℕ)) (before after : Option (List ℕ)) (sink_before sink_after : ℕ) (stop : Stop) (ended : ℕ) → Stopped holds named faults_before faults_after asked_before asked_after (BootStops made faults ports_before ports_after holds named) stop → AsksFront (names_to named Script) asked_before asked_after
 asked_of made faults ports_before ports_after holds named faults_before faults_after asked_before asked_after before after sink_before sink_after (Refused file cause) ended stopped = (let front = front_to named file in (front.0, stopped.1 ∙ ap (λ names. asked_before ++ names) front.1))
-asked_of made faults ports_before ports_after holds named faults_before faults_after asked_before asked_after before after sink_before sink_after (NotRead file) ended stopped = (let front = front_to named file in (front.0, stopped.1 ∙ ap (λ names. asked_before ++ names) front.1))
+asked_of made faults ports_before ports_after holds named faults_before faults_after asked_before asked_after before after sink_before sink_after (NotRead file) ended stopped = (let front = front_to named file in (front.0, stopped.2 ∙ ap (λ names. asked_before ++ names) front.1))
 asked_of made faults ports_before ports_after holds named faults_before faults_after asked_before asked_after before after sink_before sink_after Module ended stopped = (let front = front_to named Script in (front.0, stopped.1 ∙ ap (λ names. asked_before ++ names) front.1))
 asked_of made faults ports_before ports_after holds named faults_before faults_after asked_before asked_after before after sink_before sink_after NoMemory ended stopped = stopped
 
@@ -135,14 +153,14 @@ first_refused_of made faults ports_before ports_after holds named faults_before 
     let same = same_first holds named at file c cause stopped.0 told in
     let L : List ℕ → Type 0 = λ line. ((ended ≡ 3) × Put before after line) ⊎ (ended ≡ 5) ⊎ (ended ≡ 6) in
     subst L (ap (λ f. refused_line (name_of named f) c) same.0 ∙ ap (refused_line (name_of named file)) same.1) (three_or before after sink_before sink_after (stop_line named (Refused at c)) ended ends)
-first_refused_of made faults ports_before ports_after holds named faults_before faults_after asked_before asked_after before after sink_before sink_after (NotRead at) ended stopped ends kept file cause told = absurd (kept stopped.0)
+first_refused_of made faults ports_before ports_after holds named faults_before faults_after asked_before asked_after before after sink_before sink_after (NotRead at) ended stopped ends kept file cause told = absurd (kept stopped.1)
 first_refused_of made faults ports_before ports_after holds named faults_before faults_after asked_before asked_after before after sink_before sink_after Module ended stopped ends kept file cause told = good_told holds named file cause (stopped.0.good file) told
 first_refused_of made faults ports_before ports_after holds named faults_before faults_after asked_before asked_after before after sink_before sink_after NoMemory ended stopped ends kept file cause told = inr (inr ends)
 
 -- good files, and no fault of them or of the sink
 pub complete_of : {P : Type 0} (made : P → List ModuleCall) (faults : P → ℕ) (ports_before ports_after : List P) (holds : List ℕ → Option (List ℕ)) (named : Named) (faults_before faults_after : ℕ) (asked_before asked_after : List (List ℕ)) (before after : Option (List ℕ)) (sink_before sink_after : ℕ) (stop : Stop) (ended : ℕ) → Stopped holds named faults_before faults_after asked_before asked_after (BootStops made faults ports_before ports_after holds named) stop → StopEnds before after sink_before sink_after named stop ended → AreToldGood holds named → (Rose faults_before faults_after → ⊥) → (Rose sink_before sink_after → ⊥) → (ended ≡ 0) ⊎ (ended ≡ 6) ⊎ (ended ≡ 7)
 complete_of made faults ports_before ports_after holds named faults_before faults_after asked_before asked_after before after sink_before sink_after (Refused file cause) ended stopped ends good kept sink = told_good holds named file cause stopped.0 (good file)
-complete_of made faults ports_before ports_after holds named faults_before faults_after asked_before asked_after before after sink_before sink_after (NotRead file) ended stopped ends good kept sink = absurd (kept stopped.0)
+complete_of made faults ports_before ports_after holds named faults_before faults_after asked_before asked_after before after sink_before sink_after (NotRead file) ended stopped ends good kept sink = absurd (kept stopped.1)
 complete_of made faults ports_before ports_after holds named faults_before faults_after asked_before asked_after before after sink_before sink_after Module ended stopped ends good kept sink = elim ends [
   | inl put ↦ inr (inr put.0)
   | inr cut ↦ elim cut [ inl fault ↦ absurd (sink fault.1) | inr none ↦ inr (inl none) ]
@@ -156,25 +174,26 @@ ends_of before after sink_before sink_after named (NotRead file) line status end
 ends_of before after sink_before sink_after named Module line status ended same is some ends = subst (λ l. EndsWith before after sink_before sink_after l 7 ended) same (subst (λ s. EndsWith before after sink_before sink_after line s ended) is ends)
 ends_of before after sink_before sink_after named NoMemory line status ended same is some ends = absurd (some refl)
 
--- boot of the map file's map stopped, all files being read and good
-pub boot_stop : {P : Type 0} (made : P → List ModuleCall) (faults : P → ℕ) (ports_before ports_after : List P) (holds : List ℕ → Option (List ℕ)) (named : Named) (faults_before faults_after : ℕ) (asked_before asked_after : List (List ℕ)) (map : GuestMap) (stop : Stop) → AreGood holds named → IsMapOf holds named map → asked_after ≡ asked_before ++ names_to named Script → BootFails made faults ports_before ports_after map stop → Stopped holds named faults_before faults_after asked_before asked_after (BootStops made faults ports_before ports_after holds named) stop
-boot_stop made faults ports_before ports_after holds named faults_before faults_after asked_before asked_after map (Refused file cause) good is asked fails = absurd fails
-boot_stop made faults ports_before ports_after holds named faults_before faults_after asked_before asked_after map (NotRead file) good is asked fails = absurd fails
-boot_stop made faults ports_before ports_after holds named faults_before faults_after asked_before asked_after map Module good is asked fails = (
+-- boot of what the files hold stopped, all of them being read and good
+pub boot_stop : {P : Type 0} (made : P → List ModuleCall) (faults : P → ℕ) (ports_before ports_after : List P) (holds : List ℕ → Option (List ℕ)) (named : Named) (faults_before faults_after : ℕ) (asked_before asked_after : List (List ℕ)) (map : GuestMap) (table : Option Bits) (stop : Stop) → AreGood holds named → IsGiven holds named map table → asked_after ≡ asked_before ++ names_to named Script → BootFails made faults ports_before ports_after map table named.areas stop → Stopped holds named faults_before faults_after asked_before asked_after (BootStops made faults ports_before ports_after holds named) stop
+boot_stop made faults ports_before ports_after holds named faults_before faults_after asked_before asked_after map table (Refused file cause) good given asked fails = absurd fails
+boot_stop made faults ports_before ports_after holds named faults_before faults_after asked_before asked_after map table (NotRead file) good given asked fails = absurd fails
+boot_stop made faults ports_before ports_after holds named faults_before faults_after asked_before asked_after map table Module good given asked fails = (
   record {
     good = good;
     map = map;
-    same = is;
+    table = table;
+    given = given;
     failed = fails;
   },
   asked,
 )
-boot_stop made faults ports_before ports_after holds named faults_before faults_after asked_before asked_after map NoMemory good is asked fails = (3, asked)
+boot_stop made faults ports_before ports_after holds named faults_before faults_after asked_before asked_after map table NoMemory good given asked fails = asks_all named asked_before asked_after asked
 
 -- the same, where there is a stop
-pub boot_stop_of : {P R : Type 0} (made : P → List ModuleCall) (faults : P → ℕ) (ports_before ports_after : List P) (holds : List ℕ → Option (List ℕ)) (named : Named) (faults_before faults_after : ℕ) (asked_before asked_after : List (List ℕ)) (map : GuestMap) (result : Result R Stop) → AreGood holds named → IsMapOf holds named map → asked_after ≡ asked_before ++ names_to named Script → IfErr result (λ stop. BootFails made faults ports_before ports_after map stop) → IfErr result (λ stop. Stopped holds named faults_before faults_after asked_before asked_after (BootStops made faults ports_before ports_after holds named) stop)
-boot_stop_of made faults ports_before ports_after holds named faults_before faults_after asked_before asked_after map (Ok r) good is asked fails = tt
-boot_stop_of made faults ports_before ports_after holds named faults_before faults_after asked_before asked_after map (Err stop) good is asked fails = boot_stop made faults ports_before ports_after holds named faults_before faults_after asked_before asked_after map stop good is asked fails
+pub boot_stop_of : {P R : Type 0} (made : P → List ModuleCall) (faults : P → ℕ) (ports_before ports_after : List P) (holds : List ℕ → Option (List ℕ)) (named : Named) (faults_before faults_after : ℕ) (asked_before asked_after : List (List ℕ)) (map : GuestMap) (table : Option Bits) (result : Result R Stop) → AreGood holds named → IsGiven holds named map table → asked_after ≡ asked_before ++ names_to named Script → IfErr result (λ stop. BootFails made faults ports_before ports_after map table named.areas stop) → IfErr result (λ stop. Stopped holds named faults_before faults_after asked_before asked_after (BootStops made faults ports_before ports_after holds named) stop)
+boot_stop_of made faults ports_before ports_after holds named faults_before faults_after asked_before asked_after map table (Ok r) good given asked fails = tt
+boot_stop_of made faults ports_before ports_after holds named faults_before faults_after asked_before asked_after map table (Err stop) good given asked fails = boot_stop made faults ports_before ports_after holds named faults_before faults_after asked_before asked_after map table stop good given asked fails
 
 -- a stop of reading is one of a run
 pub input_stop : (holds : List ℕ → Option (List ℕ)) (named : Named) (faults_before faults_after : ℕ) (asked_before asked_after : List (List ℕ)) (Boots : Type 0) (stop : Stop) → Stopped holds named faults_before faults_after asked_before asked_after ⊥ stop → Stopped holds named faults_before faults_after asked_before asked_after Boots stop
@@ -199,3 +218,16 @@ pub all_good_of : (rose : Type 0) (ended : ℕ) → (ended ≡ 0) ⊎ (ended ≡
 all_good_of rose ended (inl is) failed kept = inl is
 all_good_of rose ended (inr (inl is)) failed kept = absurd (kept (failed is))
 all_good_of rose ended (inr (inr is)) failed kept = inr is
+
+-- a line that ends with 2 was put
+pub line_put : (before after : Option (List ℕ)) (line : List ℕ) (ended : ℕ) → (ended ≡ 5) ⊎ (ended ≡ 6) ⊎ Put before after line → ended ≡ 2 → Put before after line
+line_put before after line ended (inl five) is = absurd (omega (arith, five, is))
+line_put before after line ended (inr (inl six)) is = absurd (omega (arith, six, is))
+line_put before after line ended (inr (inr put)) is = put
+
+-- what is refused first, and asked for, by the words
+pub first_of_words : (holds : List ℕ → Option (List ℕ)) (words : Option Named) (named other : Named) (Written : List ℕ → Type 0) (status : ℕ) → words ≡ Some named → RefusesFirstOf holds named Written status → words ≡ Some other → RefusesFirstOf holds other Written status
+first_of_words holds words named other Written status is first that = subst (λ n. RefusesFirstOf holds n Written status) (same_named words named other is that) first
+
+pub asked_of_words : (words : Option Named) (named : Named) (before after : List (List ℕ)) → words ≡ Some named → AsksFront (names_to named Script) before after → AsksFront (names_of words) before after
+asked_of_words words named before after is asked = subst (λ w. AsksFront (names_of w) before after) (sym is) asked

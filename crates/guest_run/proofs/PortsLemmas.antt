@@ -1,4 +1,4 @@
-use Rattle.std.proofs.Common.{◌≡◌, ℕ, suc, zero, ◌<◌, false, None, Some, List, [], ◌∷◌, ◌++◌, refl, sym, ◌∙◌, ap, subst, inl, inr, arith, ◌==◌, eqb-true, length, filter, get_or}
+use Rattle.std.proofs.Common.{◌≡◌, ℕ, suc, zero, ◌<◌, false, Option, None, Some, List, [], ◌∷◌, ◌++◌, refl, sym, ◌∙◌, ap, subst, inl, inr, arith, ◌==◌, eqb-true, length, filter, get_or}
 use Rattle.std.specs.Prelude.{slice_get, slice_set, All, Result, Ok, Err, IfOk}
 use Rattle.std.specs.List.{AllByRecursion}
 use Rattle.std.proofs.lemmas.Bool.{cases_Bool}
@@ -12,6 +12,7 @@ use Rattle.event_core.specs.declared.entry.Entry.{Entry}
 use Rattle.event_core.specs.Calls.{calls_in}
 use Rattle.event_core.specs.Moved.{Moved, made_by}
 use Rattle.event_core.specs.Next.{Step, next_step}
+use Rattle.event_core.specs.Table.{Bits}
 use Rattle.event_core.specs.Legal.{at_place, with_bytes, LegalAfter, Legal}
 use Rattle.guest_base.specs.Counts.{Rose}
 use Rattle.guest_base.specs.declared.memory.Page.{Page}
@@ -77,9 +78,9 @@ others_kept made [] port unmade = tt
 others_kept made (p ∷ old) port unmade = All-tail (λ p. made p ≡ []) p old unmade
 
 -- boot stopped, by what its call says of the first port
-pub boot_failed : {P : Type 0} (made : P → List ModuleCall) (faults : P → ℕ) (old : List P) (port_old port : P) (map : GuestMap) (page : Page) → 0 < length old → All (λ p. made p ≡ []) old → port_old ≡ get_or old 0 port_old → BootStopped map.descriptors map.hosts 0 1 1 (made port) page → Rose (faults port_old) (faults port) → BootFailed made faults old (slice_set old 0 port) map
-boot_failed made faults [] port_old port map page some unmade is stopped failed = absurd (omega (arith, some))
-boot_failed made faults (p ∷ old) port_old port map page some unmade is stopped failed = record {
+pub boot_failed : {P : Type 0} (made : P → List ModuleCall) (faults : P → ℕ) (old : List P) (port_old port : P) (map : GuestMap) (table : Option Bits) (areas : ℕ) (page : Page) → 0 < length old → All (λ p. made p ≡ []) old → port_old ≡ get_or old 0 port_old → BootStopped map.descriptors map.hosts table 0 areas 1 (made port) page → Rose (faults port_old) (faults port) → BootFailed made faults old (slice_set old 0 port) map table areas
+boot_failed made faults [] port_old port map table areas page some unmade is stopped failed = absurd (omega (arith, some))
+boot_failed made faults (p ∷ old) port_old port map table areas page some unmade is stopped failed = record {
   page = page;
   stopped = stopped;
   rose = subst (λ q. Rose (faults q) (faults port)) is failed;

@@ -7,10 +7,11 @@ use Rattle.std.proofs.lemmas.List.{length_push}
 use Rattle.std.proofs.lemmas.List.Elements.{All-nil, All-cons}
 use Rattle.event_core.specs.declared.command.Command.{Command}
 use Rattle.event_core.specs.declared.command.Command.TheVariants as command
+use Rattle.event_core.specs.ReadableScript.{bytes_named}
 use Rattle.guest_script.specs.declared.fault.ScriptFault.{ScriptFault}
 use Rattle.guest_script.specs.declared.fault.ScriptFault.TheVariants as fault
 use Rattle.guest_script.specs.Commands.{command_of}
-use Rattle.guest_script.specs.Script.{named_bytes, at_line, followed_by, line_words, with_command, with_words, with_line, with_lines, script_of}
+use Rattle.guest_script.specs.Script.{at_line, followed_by, line_words, with_command, with_words, with_line, with_lines, script_of}
 use Rattle.guest_run.specs.First.{IsFirstCommand, is_first}
 
 -- A script that was read has at most 2,048 commands.
@@ -25,7 +26,7 @@ chosen false script c longer h = let e : script ++ c ∷ [] ≡ longer = cc in s
 command_few : (read : Result Command ScriptFault) (script longer : List Command) → length script < 2048 → followed_by read (with_command script) ≡ Ok longer → length longer ≤ 2048
 command_few (Err f) script longer low h = none f longer h
 command_few (Ok c) script longer low h =
-    let e = chosen (nat_lt 4194304 (sum_by named_bytes script + named_bytes c)) script c longer h in
+    let e = chosen (nat_lt 4194304 (sum_by bytes_named script + bytes_named c)) script c longer h in
     let n = length_push script c in
     let same : length longer ≡ length (script ++ c ∷ []) = ap (λ (s : List Command). length s) e in
     omega (arith, n, same, low)
@@ -69,6 +70,7 @@ one_first (command.Accept start len) h = tt
 one_first (command.Query start len) h = tt
 one_first (command.Alloc name order) h = cc
 one_first (command.Free name) h = cc
+one_first (command.Giveback name) h = cc
 one_first (command.Read name off len) h = cc
 one_first (command.Write name off hex) h = cc
 one_first (command.Fill name off len byte) h = cc

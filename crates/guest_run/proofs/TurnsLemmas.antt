@@ -1,6 +1,5 @@
 use Rattle.std.proofs.Common.{◌≡◌, ℕ, zero, suc, ◌+◌, ◌<◌, Bool, true, false, Option, None, Some, List, [], ◌∷◌, ◌++◌, refl, sym, ◌∙◌, ap, subst, arith, cond, length, All}
 use Rattle.std.specs.Prelude.{slice_get, is_none, find}
-use Rattle.std.proofs.lemmas.List.Sorted.{IsPermutation-refl}
 use Rattle.std.specs.Option.{option_and_then, option_map}
 use Rattle.std.specs.List.{AllByRecursion, AllPairs}
 use Rattle.std.proofs.lemmas.List.Elements.{All-nil, All-cons, recursion_from_All}
@@ -96,14 +95,26 @@ mine-of : (boot : Boot) (moved : List Moved) → AllByRecursion (IsMine boot) mo
 mine-of boot [] all = tt
 mine-of boot (m ∷ moved) all = (all.0.0, mine-of boot moved all.1)
 
-pub turned-one : (boot : Boot) (script : List Command) (entries : List Entry) (memory : List Entry) (number : ℕ) (claim : Option Claimed) → AllByRecursion IsFirstCommand script → At boot script entries memory number claim → Turned boot (script ∷ []) [] entries
-turned-one boot script entries memory number claim first at =
+-- behind the last command there is none
+none-behind : (script : List Command) → slice_get script (length script) ≡ None
+none-behind [] = refl
+none-behind (c ∷ script) = none-behind script
+
+-- a processor all of whose commands have their replies has no next event
+ended-one : (boot : Boot) (script : List Command) (history : List Moved) → replied (made_by 0 history) ≡ length script → (cpu : ℕ) → is_idle boot (script ∷ []) history cpu ≡ true
+ended-one boot script history done zero =
+    ap (λ c. is_none (option_and_then (λ x. step_of boot 0 (own_of script (made_by 0 history)) (at_place place.Memory history) x []) c)) (ap (slice_get script) done ∙ none-behind script)
+ended-one boot script history done (suc cpu) = refl
+
+pub turned-one : (boot : Boot) (script : List Command) (entries : List Entry) (memory : List Entry) (number : ℕ) (claim : Option Claimed) → AllByRecursion IsFirstCommand script → At boot script entries memory number claim → number ≡ length script → Turned boot (script ∷ []) [] entries
+turned-one boot script entries memory number claim first at is =
     let P : List Entry → Type 0 = AllByRecursion (λ (e : Entry). e.cpu.0 ≡ 0) in
     record {
       taken = entries;
-      same = IsPermutation-refl entries;
+      same = λ cpu. refl;
       rounds = length entries;
       turns = taken-one boot script [] entries at.cpus first (subst P (moved-entries boot (script ∷ []) [] entries) (mine-of boot (with_moved boot (script ∷ []) entries) at.running.history.each)) at.running.legal;
+      ended = ended-one boot script (with_moved boot (script ∷ []) entries) (ap replied (mine-all boot (with_moved boot (script ∷ []) entries) at.running.history.each) ∙ at.present ∙ is);
     }
 
 all_replied : (boot : Boot) (script : List Command) (entries : List Entry) (number : ℕ) → replied (made_by 0 (with_moved boot (script ∷ []) entries)) ≡ number → number ≡ length script → (cpu : ℕ) (s : List Command) → slice_get (script ∷ []) cpu ≡ Some s → replied (made_by cpu (with_moved boot (script ∷ []) entries)) ≡ length s
@@ -173,7 +184,7 @@ history-of p scripts first ready is =
     let T : List (List Command) → Type 0 = λ s. Turned p.boot s [] p.entries in
     record {
       whole = subst W (sym is) (whole-one p.boot p.script p.entries p.memory.entries (length p.script) None ready.at refl);
-      turned = subst T (sym is) (turned-one p.boot p.script p.entries p.memory.entries (length p.script) None (recursion_from_All IsFirstCommand p.script first) ready.at);
+      turned = subst T (sym is) (turned-one p.boot p.script p.entries p.memory.entries (length p.script) None (recursion_from_All IsFirstCommand p.script first) ready.at refl);
     }
 
 -- ---- runs of pages, in the words of the page table and of the history

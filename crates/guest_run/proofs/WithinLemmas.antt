@@ -15,7 +15,9 @@ use Rattle.event_core.specs.Calls.{States, calls_of, is_done, covers, after_call
 use Rattle.event_core.specs.Map.{MapRules}
 use Rattle.event_core.specs.MemoryRows.{page_state}
 use Rattle.event_core.specs.Runs.{run_holds, state_in, AreMaximalRuns}
-use Rattle.event_core.proofs.MapLemmas.{first_none}
+use Rattle.event_core.proofs.BootFacts.{ram-low}
+use Rattle.event_core.specs.Table.{Bits}
+use Rattle.guest_base.specs.declared.memory.PageState.{PageState}
 use Rattle.guest_run.specs.Bounds.{EndInMemory}
 
 -- The final runs of pages end in memory.
@@ -53,23 +55,27 @@ no_state page (Some run) h = cc
 holds_last : (run : PageRun) (page : ℕ) → 0 < run.pages.count → page + 1 ≡ run.pages.first + run.pages.count → run_holds page run ≡ true
 holds_last run page some is = grind (arith, nat_tests)
 
+none_where : (o : Option PageState) → ((o ≡ None → ⊥) → ⊥) → o ≡ None
+none_where None h = refl
+none_where (Some state) h = absurd (h (λ no. cc))
+
 -- maximal runs of pages after sound calls end in memory
-pub runs_within : (map : List Descriptor) (hosts : List HostRun) (slots areas cpus : ℕ) (boot : Boot) (calls : List ModuleCall) (runs : List PageRun) → MapRules map hosts → BootRight map hosts slots areas cpus boot → SoundCalls (state_in boot.ram) calls → AreMaximalRuns (page_state boot calls) runs → EndInMemory runs
-runs_within map hosts slots areas cpus boot calls runs rules right sound maximal k d lt =
+pub runs_within : (map : List Descriptor) (hosts : List HostRun) (table : Option Bits) (slots areas cpus : ℕ) (boot : Boot) (calls : List ModuleCall) (runs : List PageRun) → MapRules map hosts → BootRight map hosts table slots areas cpus boot → SoundCalls (state_in boot.ram) calls → AreMaximalRuns (page_state boot calls) runs → EndInMemory runs
+runs_within map hosts table slots areas cpus boot calls runs rules right sound maximal k d lt =
     let run = get_or runs k d in
     let page = run.pages.first + run.pages.count - 1 in
     let some : 0 < run.pages.count = maximal.some k d lt in
     elim (cases_lt page (2 ^ 28)) [
       | inl low ↦ omega (arith, low)
       | inr high ↦
-          let first : state_in boot.ram page ≡ None = right.ram.each page ∙ first_none map page rules.each high in
+          let first : state_in boot.ram page ≡ None = none_where (state_in boot.ram page) (λ some. (let low = ram-low map hosts table slots areas cpus boot rules right page some in omega (arith, low, high))) in
           let none : state_in runs page ≡ None = maximal.each page ∙ none_stays (state_in boot.ram) calls page sound first in
           absurd (found_in page runs k d lt (holds_last run page some (omega (arith, some))) (no_state page (find (run_holds page) runs) none))
     ]
 
 -- the runs that a run answers
-pub within_of : {E : Type 0} (map : List Descriptor) (hosts : List HostRun) (slots areas : ℕ) (boot : Boot) (result : Result (Recorded × List PageRun) E) → MapRules map hosts → BootRight map hosts slots areas 1 boot → IfOk result (λ r. r.0.boot ≡ boot) → IfOk result (λ r. AcceptedOnce r.0.boot r.0.entries) → IfOk result (λ r. AreMaximalRuns (page_state r.0.boot (calls_of r.0.boot r.0.entries)) r.1) → IfOk result (λ r. EndInMemory r.1)
-within_of map hosts slots areas boot (Ok r) rules right is once maximal =
-    let B : Boot → Type 0 = BootRight map hosts slots areas 1 in
-    runs_within map hosts slots areas 1 r.0.boot (calls_of r.0.boot r.0.entries) r.1 rules (subst B (sym is) right) once.sound maximal
-within_of map hosts slots areas boot (Err e) rules right is once maximal = tt
+pub within_of : {E : Type 0} (map : List Descriptor) (hosts : List HostRun) (table : Option Bits) (slots areas : ℕ) (boot : Boot) (result : Result (Recorded × List PageRun) E) → MapRules map hosts → BootRight map hosts table slots areas 1 boot → IfOk result (λ r. r.0.boot ≡ boot) → IfOk result (λ r. AcceptedOnce r.0.boot r.0.entries) → IfOk result (λ r. AreMaximalRuns (page_state r.0.boot (calls_of r.0.boot r.0.entries)) r.1) → IfOk result (λ r. EndInMemory r.1)
+within_of map hosts table slots areas boot (Ok r) rules right is once maximal =
+    let B : Boot → Type 0 = BootRight map hosts table slots areas 1 in
+    runs_within map hosts table slots areas 1 r.0.boot (calls_of r.0.boot r.0.entries) r.1 rules (subst B (sym is) right) once.sound maximal
+within_of map hosts table slots areas boot (Err e) rules right is once maximal = tt

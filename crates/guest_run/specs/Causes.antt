@@ -1,18 +1,23 @@
 use Rattle.std.specs.Prelude.{ℕ, List, [], ◌∷◌, ◌≡◌, length, nat_lt, if◌then◌else◌, Option, None, Some, Result, Ok, Err}
+use Rattle.std.specs.Option.{option_and_then, option_map, option_or}
 use Rattle.std.specs.List.{list_all}
+use Rattle.event_core.specs.declared.boot.Descriptor.{Descriptor}
 use Rattle.event_core.specs.declared.command.Command.{Command}
+use Rattle.event_core.specs.Table.{Bits, bad_unit}
 use Rattle.efi_map.specs.declared.fault.MapFault.{MapFault}
 use Rattle.efi_map.specs.declared.map.GuestMap.{GuestMap}
 use Rattle.efi_map.specs.MapFile.{map_of}
 use Rattle.guest_script.specs.declared.fault.ScriptFault.{ScriptFault}
 use Rattle.guest_script.specs.Script.{script_of}
+use Rattle.unaccepted_bitmap.specs.declared.fault.TableFault.{TableFault}
+use Rattle.unaccepted_bitmap.specs.TableFile.{table_of}
+use Rattle.guest_words.specs.Words.{Named}
 use Rattle.guest_run.specs.declared.stop.Cause.{Cause}
-use Rattle.guest_run.specs.declared.stop.Cause.TheVariants.{TooLong, Later, OfMap, OfScript}
+use Rattle.guest_run.specs.declared.stop.Cause.TheVariants.{TooLong, Later, OfMap, OfTable, BadBit, OfScript}
 use Rattle.guest_run.specs.declared.stop.InputFile.{InputFile}
-use Rattle.guest_run.specs.declared.stop.InputFile.TheVariants.{Order, Map, Script}
+use Rattle.guest_run.specs.declared.stop.InputFile.TheVariants.{Order, Map, Table, Script}
 use Rattle.guest_run.specs.First.{is_first}
-use Rattle.guest_run.specs.Words.{Named}
-use Rattle.guest_run.specs.Stops.{name_of}
+use Rattle.guest_run.specs.Stops.{IsNamed}
 
 -- Which files are refused, and why (own rule).
 
@@ -20,6 +25,7 @@ use Rattle.guest_run.specs.Stops.{name_of}
 abbrev pub limit_of : InputFile → ℕ
 limit_of Order = 67108864
 limit_of Map = 1130516
+limit_of Table = 33554456
 limit_of Script = 16777216
 
 -- today an order file has to be empty
@@ -32,43 +38,83 @@ abbrev pub map_cause : Result GuestMap MapFault → Option Cause
 map_cause (Ok map) = None
 map_cause (Err fault) = Some (OfMap fault)
 
+-- a table file has to hold a table
+abbrev pub table_cause : Result Bits TableFault → Option Cause
+table_cause (Ok table) = None
+table_cause (Err fault) = Some (OfTable fault)
+
 -- a script file has to hold a script, and today one whose commands can all be run
 abbrev pub script_cause : Result (List Command) ScriptFault → Option Cause
 script_cause (Ok script) = if list_all is_first script then None else Some Later
 script_cause (Err fault) = Some (OfScript fault)
 
--- what is wrong with bytes that are within the file's limit; nothing where they are good
+-- what is wrong with bytes that are within the file's limit, by themselves; nothing where they are good
 abbrev pub content_cause : InputFile → List ℕ → Option Cause
 content_cause Order bytes = order_cause bytes
 content_cause Map bytes = map_cause (map_of bytes)
+content_cause Table bytes = table_cause (table_of bytes)
 content_cause Script bytes = script_cause (script_of bytes)
 
--- why bytes are refused; None where they are good
+-- why bytes are refused by themselves; None where they are good
 abbrev pub cause_of : InputFile → List ℕ → Option Cause
 cause_of file bytes = if nat_lt (limit_of file) (length bytes) then Some TooLong else content_cause file bytes
 
+-- a table has to fit the map: the first unit that doesn't
+abbrev pub fit_cause : List Descriptor → Result Bits TableFault → Option Cause
+fit_cause map (Ok table) = option_map BadBit (bad_unit map table)
+fit_cause map (Err fault) = None
+
+-- why a table's bytes are refused; whether it fits the map is looked at last
+abbrev pub cause_by : List Descriptor → List ℕ → Option Cause
+cause_by map bytes = option_or (cause_of Table bytes) (fit_cause map (table_of bytes))
+
+-- what a file is told to hold; nothing is told of a table that no word names
+abbrev pub held : (List ℕ → Option (List ℕ)) → Named → InputFile → Option (List ℕ)
+held holds named Order = holds named.order
+held holds named Map = holds named.map
+held holds named Table = option_and_then holds named.table
+held holds named Script = holds named.script
+
+-- the map is the map file's, wherever it is told what that holds
+abbrev pub IsMapOf : (List ℕ → Option (List ℕ)) → Named → GuestMap → Type 0
+IsMapOf holds named map = (bytes : List ℕ) → holds named.map ≡ Some bytes → map_of bytes ≡ Ok map
+
+-- Wherever it is told what the file holds, this is its cause (None where it is good). A table's is by a map, which is the map file's
+-- wherever it is told what that holds.
+abbrev pub HasCause : (List ℕ → Option (List ℕ)) → Named → InputFile → Option Cause → Type 0
+HasCause holds named Table cause =
+    (map : GuestMap) × IsMapOf holds named map × ((bytes : List ℕ) → held holds named Table ≡ Some bytes → cause_by map.descriptors bytes ≡ cause)
+HasCause holds named file cause = (bytes : List ℕ) → held holds named file ≡ Some bytes → cause_of file bytes ≡ cause
+
+-- it is told what the file holds, and this is its cause; of a table it is told what the map file holds too
+abbrev pub IsToldCause : (List ℕ → Option (List ℕ)) → Named → InputFile → Option Cause → Type 0
+IsToldCause holds named Table cause =
+    (map_bytes bytes : List ℕ) × (map : GuestMap) × (holds named.map ≡ Some map_bytes) × (map_of map_bytes ≡ Ok map)
+    × (held holds named Table ≡ Some bytes) × (cause_by map.descriptors bytes ≡ cause)
+IsToldCause holds named file cause = (bytes : List ℕ) × (held holds named file ≡ Some bytes) × (cause_of file bytes ≡ cause)
+
 -- the file is good, wherever it is told what it holds
 abbrev pub IsGood : (List ℕ → Option (List ℕ)) → Named → InputFile → Type 0
-IsGood holds named file = (bytes : List ℕ) → holds (name_of named file) ≡ Some bytes → cause_of file bytes ≡ None
+IsGood holds named file = HasCause holds named file None
 
--- it is told what the file holds, and it is good
+-- where the file is named, it is told what it holds, and it is good
 abbrev pub IsToldGood : (List ℕ → Option (List ℕ)) → Named → InputFile → Type 0
-IsToldGood holds named file = (bytes : List ℕ) × (holds (name_of named file) ≡ Some bytes) × (cause_of file bytes ≡ None)
+IsToldGood holds named file = IsNamed named file → IsToldCause holds named file None
 
--- what holds of each file before this one; they are read in the order of the words
+-- what holds of each file before this one; they are read in this order
 abbrev pub OfEachBefore : (InputFile → Type 0) → InputFile → Type 0
 OfEachBefore P Order = Unit {0}
 OfEachBefore P Map = P Order
-OfEachBefore P Script = P Order × P Map
+OfEachBefore P Table = P Order × P Map
+OfEachBefore P Script = P Order × P Map × P Table
 
--- wherever it is told what the files hold, this one is refused for the cause, and those before it are good
+-- wherever it is told what the files hold, this one, which is named, is refused for the cause, and those before it are good
 pub record IsRefused (holds : List ℕ → Option (List ℕ)) (named : Named) (file : InputFile) (cause : Cause) : Type 0 where
-  pub own : (bytes : List ℕ) → holds (name_of named file) ≡ Some bytes → cause_of file bytes ≡ Some cause
+  pub is_named : IsNamed named file
+  pub own : HasCause holds named file (Some cause)
   pub before : OfEachBefore (IsGood holds named) file
 
 -- it is told what this file and those before it hold: this one is refused for the cause, and those before it are good
 pub record IsToldRefused (holds : List ℕ → Option (List ℕ)) (named : Named) (file : InputFile) (cause : Cause) : Type 0 where
-  pub bytes : List ℕ
-  pub told : holds (name_of named file) ≡ Some bytes
-  pub own : cause_of file bytes ≡ Some cause
+  pub own : IsToldCause holds named file (Some cause)
   pub before : OfEachBefore (IsToldGood holds named) file

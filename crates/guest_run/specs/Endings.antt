@@ -1,17 +1,20 @@
 use Rattle.std.specs.Prelude.{ℕ, List, [], ◌∷◌, ◌++◌, take, Option, None, Some, All, ◌≡◌, ◌⊎◌, Ok}
+use Rattle.std.specs.Option.{option_to_list}
 use Rattle.guest_base.specs.Counts.{Rose}
 use Rattle.guest_base.specs.declared.memory.Page.{Page}
 use Rattle.event_core.specs.declared.module_call.ModuleCall.{ModuleCall}
+use Rattle.event_core.specs.Given.{FitsGiven}
+use Rattle.event_core.specs.Table.{Bits}
 use Rattle.efi_map.specs.declared.map.GuestMap.{GuestMap}
-use Rattle.efi_map.specs.MapFile.{map_of}
+use Rattle.unaccepted_bitmap.specs.TableFile.{table_of}
 use Rattle.guest_io.specs.Writing.{appended, AppendsPrefix}
 use Rattle.guest_boot.specs.Stopped.{BootStopped}
 use Rattle.guest_run.specs.declared.stop.Cause.{Cause}
 use Rattle.guest_run.specs.declared.stop.InputFile.{InputFile}
-use Rattle.guest_run.specs.declared.stop.InputFile.TheVariants.{Order, Map, Script}
-use Rattle.guest_run.specs.Causes.{IsGood, IsToldGood, IsRefused, IsToldRefused}
-use Rattle.guest_run.specs.Stops.{name_of, refused_line, not_read_line, boot_line, words_line}
-use Rattle.guest_run.specs.Words.{Named, named_by}
+use Rattle.guest_run.specs.declared.stop.InputFile.TheVariants.{Order, Map, Table, Script}
+use Rattle.guest_run.specs.Causes.{IsGood, IsToldGood, IsRefused, IsToldRefused, IsMapOf}
+use Rattle.guest_run.specs.Stops.{name_of, IsNamed, refused_line, not_read_line, boot_line, words_line}
+use Rattle.guest_words.specs.Words.{Named, named_by}
 
 -- How a run ends before its text (own rule).
 
@@ -19,9 +22,10 @@ use Rattle.guest_run.specs.Words.{Named, named_by}
 abbrev pub names_to : Named → InputFile → List (List ℕ)
 names_to named Order = named.order ∷ []
 names_to named Map = named.order ∷ named.map ∷ []
-names_to named Script = named.order ∷ named.map ∷ named.script ∷ []
+names_to named Table = named.order ∷ named.map ∷ option_to_list named.table
+names_to named Script = named.order ∷ named.map ∷ (option_to_list named.table ++ named.script ∷ [])
 
--- the names of the files that the words name, in their order
+-- the names of the files that the words name, in this order
 abbrev pub names_of : Option Named → List (List ℕ)
 names_of None = []
 names_of (Some named) = names_to named Script
@@ -48,23 +52,33 @@ OthersUnmade made (port ∷ ports) = All (λ port. made port ≡ []) ports
 abbrev pub AreGood : (List ℕ → Option (List ℕ)) → Named → Type 0
 AreGood holds named = (file : InputFile) → IsGood holds named file
 
--- the map is the map file's, wherever it is told what that holds
-abbrev pub IsMapOf : (List ℕ → Option (List ℕ)) → Named → GuestMap → Type 0
-IsMapOf holds named map = (bytes : List ℕ) → holds named.map ≡ Some bytes → map_of bytes ≡ Ok map
+-- the table is that of the file of this name, wherever it is told what that holds; without a name there is none
+abbrev pub IsTableOf : (List ℕ → Option (List ℕ)) → Option (List ℕ) → Option Bits → Type 0
+IsTableOf holds None None = Unit {0}
+IsTableOf holds (Some name) (Some table) = (bytes : List ℕ) → holds name ≡ Some bytes → table_of bytes ≡ Ok table
+IsTableOf holds None (Some table) = ⊥
+IsTableOf holds (Some name) None = ⊥
 
--- boot of the map stopped at a page, where a call on the first port failed, and no other port was asked
-pub record BootFailed {P : Type 0} (made : P → List ModuleCall) (faults : P → ℕ) (before after : List P) (map : GuestMap) : Type 0 where
+-- what boot is given: the map and the table of the files; the table fits the map
+pub record IsGiven (holds : List ℕ → Option (List ℕ)) (named : Named) (map : GuestMap) (table : Option Bits) : Type 0 where
+  pub map_is : IsMapOf holds named map
+  pub table_is : IsTableOf holds named.table table
+  pub fits : FitsGiven map.descriptors table
+
+-- boot of the map and the table stopped at a page, where a call on the first port failed, and no other port was asked
+pub record BootFailed {P : Type 0} (made : P → List ModuleCall) (faults : P → ℕ) (before after : List P) (map : GuestMap) (table : Option Bits) (areas : ℕ) : Type 0 where
   pub page : Page
-  pub stopped : BootStopped map.descriptors map.hosts 0 1 1 (first_made made after) page
+  pub stopped : BootStopped map.descriptors map.hosts table 0 areas 1 (first_made made after) page
   pub rose : Rose (first_faults faults before) (first_faults faults after)
   pub others : OthersUnmade made after
 
--- boot of the map file's map did so, all files being good
+-- boot of what the files hold did so, all of them being good
 pub record BootStops {P : Type 0} (made : P → List ModuleCall) (faults : P → ℕ) (before after : List P) (holds : List ℕ → Option (List ℕ)) (named : Named) : Type 0 where
   pub good : AreGood holds named
   pub map : GuestMap
-  pub same : IsMapOf holds named map
-  pub failed : BootFailed made faults before after map
+  pub table : Option Bits
+  pub given : IsGiven holds named map table
+  pub failed : BootFailed made faults before after map table named.areas
 
 -- a line was put
 abbrev pub Put : Option (List ℕ) → Option (List ℕ) → List ℕ → Type 0
@@ -85,7 +99,7 @@ SaysRefused holds Written named = (file : InputFile) × (cause : Cause) × IsRef
 -- The line says that a file couldn't be read. It was asked for last, and the count of the files' faults rose.
 abbrev pub SaysNotRead : ℕ → ℕ → List (List ℕ) → List (List ℕ) → (List ℕ → Type 0) → Named → Type 0
 SaysNotRead faults_before faults_after asked_before asked_after Written named =
-    (file : InputFile) × Rose faults_before faults_after × (asked_after ≡ asked_before ++ names_to named file) × Written (not_read_line (name_of named file))
+    (file : InputFile) × IsNamed named file × Rose faults_before faults_after × (asked_after ≡ asked_before ++ names_to named file) × Written (not_read_line (name_of named file))
 
 -- The line says that boot stopped, and so it did.
 abbrev pub SaysBootStopped : {P : Type 0} → (P → List ModuleCall) → (P → ℕ) → List P → List P → (List ℕ → Option (List ℕ)) → (List ℕ → Type 0) → Named → Type 0

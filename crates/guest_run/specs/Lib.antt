@@ -3,8 +3,6 @@ pub mod Ready
 pub mod Answered
 pub mod First
 pub mod RangedCommand
-pub mod Words
-pub mod Views
 pub mod Replies
 pub mod Bounds
 pub mod Stops

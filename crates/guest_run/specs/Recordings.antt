@@ -1,32 +1,31 @@
 use Rattle.std.specs.Prelude.{ℕ, List, [], ◌∷◌, Option, Some, Ok, false, ◌≡◌}
 use Rattle.event_core.specs.declared.command.Command.{Command}
-use Rattle.event_core.specs.declared.boot.Boot.{Boot}
 use Rattle.event_core.specs.declared.boot.Recorded.{Recorded}
 use Rattle.event_core.specs.Boot.{BootRight}
+use Rattle.event_core.specs.Table.{Bits}
 use Rattle.event_core.specs.Legal.{Whole}
 use Rattle.event_core.specs.Turns.{Turned}
 use Rattle.event_core.specs.Printed.{Printed}
 use Rattle.efi_map.specs.declared.map.GuestMap.{GuestMap}
-use Rattle.efi_map.specs.MapFile.{map_of}
 use Rattle.guest_io.specs.Writing.{appended, AppendsPrefix}
 use Rattle.guest_script.specs.Script.{script_of}
-use Rattle.guest_run.specs.Words.{Named, named_by}
+use Rattle.guest_words.specs.Words.{Named, named_by}
+use Rattle.guest_run.specs.Endings.{IsGiven}
 
 -- What is promised of a recorded run.
-
--- boot made this of the map that the bytes hold: no pool, one area and one processor
-abbrev pub BootedFrom : List ℕ → Boot → Type 0
-BootedFrom bytes boot = (map : GuestMap) × (map_of bytes ≡ Ok map) × BootRight map.descriptors map.hosts 0 1 1 boot
 
 -- the scripts are the one script that the bytes hold
 abbrev pub ScriptedBy : List ℕ → Recorded → Type 0
 ScriptedBy bytes r = (script : List Command) × (script_of bytes ≡ Ok script) × (r.scripts ≡ script ∷ [])
 
--- The run is of the files that are named, wherever it is told what they hold: the order file is empty, boot is that of the map,
--- and the scripts are those of the script file.
+-- The run is of the files that are named, wherever it is told what they hold: the order file is empty, boot is that of the map and of
+-- the table, with no pool, the areas of the words and one processor, and the scripts are those of the script file.
 pub record BootedBy (holds : List ℕ → Option (List ℕ)) (named : Named) (r : Recorded) : Type 0 where
   pub order : (bytes : List ℕ) → holds named.order ≡ Some bytes → bytes ≡ []
-  pub map : (bytes : List ℕ) → holds named.map ≡ Some bytes → BootedFrom bytes r.boot
+  pub map : GuestMap
+  pub table : Option Bits
+  pub given : IsGiven holds named map table
+  pub right : BootRight map.descriptors map.hosts table 0 named.areas 1 r.boot
   pub scripts : (bytes : List ℕ) → holds named.script ≡ Some bytes → ScriptedBy bytes r
 
 -- the words name the files of the run

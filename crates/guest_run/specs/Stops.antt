@@ -1,27 +1,35 @@
-use Rattle.std.specs.Prelude.{ℕ, List, [], ◌++◌, codes}
+use Rattle.std.specs.Prelude.{ℕ, List, [], ◌++◌, codes, unwrap_or, IsSome}
 use Rattle.std.specs.Fmt.{decimal}
 use Rattle.efi_map.specs.declared.fault.MapFault.{MapFault}
 use Rattle.efi_map.specs.declared.fault.MapFault.TheVariants as fault
+use Rattle.unaccepted_bitmap.specs.declared.fault.TableFault.{TableFault}
+use Rattle.unaccepted_bitmap.specs.declared.fault.TableFault.TheVariants as table
 use Rattle.guest_script.specs.declared.fault.ScriptFault.{ScriptFault}
 use Rattle.guest_script.specs.declared.fault.ScriptFault.TheVariants as script
 use Rattle.guest_script.specs.declared.fault.Why.{Why}
 use Rattle.guest_script.specs.declared.fault.Why.TheVariants as why
 use Rattle.event_core.specs.Texts.{line}
+use Rattle.guest_words.specs.Words.{Named}
 use Rattle.guest_run.specs.declared.stop.Cause.{Cause}
-use Rattle.guest_run.specs.declared.stop.Cause.TheVariants.{TooLong, Later, OfMap, OfScript}
+use Rattle.guest_run.specs.declared.stop.Cause.TheVariants.{TooLong, Later, OfMap, OfTable, BadBit, OfScript}
 use Rattle.guest_run.specs.declared.stop.InputFile.{InputFile}
-use Rattle.guest_run.specs.declared.stop.InputFile.TheVariants.{Order, Map, Script}
+use Rattle.guest_run.specs.declared.stop.InputFile.TheVariants.{Order, Map, Table, Script}
 use Rattle.guest_run.specs.declared.stop.Stop.{Stop}
 use Rattle.guest_run.specs.declared.stop.Stop.TheVariants.{Refused, NotRead, Module, NoMemory}
-use Rattle.guest_run.specs.Words.{Named}
 
 -- The lines and statuses of a run that ends before its text (own rule).
 
--- the name of a file
+-- the name of a file; of a table that no word names it is empty
 abbrev pub name_of : Named → InputFile → List ℕ
 name_of named Order = named.order
 name_of named Map = named.map
+name_of named Table = unwrap_or named.table []
 name_of named Script = named.script
+
+-- the words name the file
+abbrev pub IsNamed : Named → InputFile → Type 0
+IsNamed named Table = IsSome named.table
+IsNamed named file = Unit {0}
 
 -- what is wrong with a map file
 abbrev pub map_fault_text : MapFault → List ℕ
@@ -37,6 +45,15 @@ map_fault_text fault.TooMuchRam = codes "ram"
 map_fault_text (fault.BadHost number) = codes "host " ++ decimal number
 map_fault_text (fault.Trailing place) = codes "trailing " ++ decimal place
 map_fault_text fault.NoMemory = codes "memory"
+
+-- what is wrong with a table file
+abbrev pub table_fault_text : TableFault → List ℕ
+table_fault_text (table.Short length) = codes "short " ++ decimal length
+table_fault_text (table.BadVersion version) = codes "version " ++ decimal version
+table_fault_text (table.BadUnit unit) = codes "unit " ++ decimal unit
+table_fault_text (table.BadBase base) = codes "base " ++ decimal base
+table_fault_text (table.BadLength length) = codes "length " ++ decimal length
+table_fault_text table.NoMemory = codes "memory"
 
 -- what is wrong with a line of a script file
 abbrev pub why_text : Why → List ℕ
@@ -59,6 +76,8 @@ abbrev pub cause_text : Cause → List ℕ
 cause_text TooLong = codes "too long"
 cause_text Later = codes "later"
 cause_text (OfMap f) = map_fault_text f
+cause_text (OfTable f) = table_fault_text f
+cause_text (BadBit unit) = codes "bit " ++ decimal unit
 cause_text (OfScript f) = script_fault_text f
 
 -- the line of a refused file

@@ -3,7 +3,7 @@ use crate::program::{Ended, top};
 use crate::tests::{MAP, files_of, ports_failing, words_of};
 use event_core::{Event, ModuleCall, PortAnswer};
 use guest_base::Level;
-use guest_io::MemSink;
+use guest_io::{MemFiles, MemSink};
 use std::alloc::{AllocError, Global};
 use std::test::Fail;
 
@@ -202,5 +202,113 @@ fn a_large_size_that_fails(rt: HostRuntime) -> Result<(), Fail> {
                 (Level::Small, PortAnswer::Ok)
             ])
     );
+    Ok(())
+}
+
+/// A table file of units of so many bytes, from a base in bytes on.
+fn table_file(alloc: Global, unit: u32, base: u64, bits: &[u8]) -> Result<Vec<u8>, AllocError> {
+    let mut bytes = Vec::from_slice(alloc, &[1, 0, 0, 0])?;
+    bytes.extend_from_slice(&unit.to_le_bytes())?;
+    bytes.extend_from_slice(&base.to_le_bytes())?;
+    bytes.extend_from_slice(&(bits.len() as u64).to_le_bytes())?;
+    bytes.extend_from_slice(bits)?;
+    Ok(bytes)
+}
+
+/// The table of `mem 15 0x400000 2048` in units of 4 KiB, of which the first 2 MiB are accepted.
+fn quarter_table(alloc: Global) -> Result<Vec<u8>, AllocError> {
+    let mut bits = vec![in alloc; 0; 64]?;
+    bits.extend_from_slice(&[255; 192])?;
+    table_file(alloc, 4096, 0x40_0000, bits.as_slice())
+}
+
+/// The status of a run of these words on `A`, `T` and `s`, of which the reads with these numbers fail.
+fn with_table(
+    alloc: Global,
+    words: &str,
+    table: &[u8],
+    failing: Vec<u64>,
+    out: &mut MemSink,
+) -> Result<u8, AllocError> {
+    let script = b"query 0x400000 0x1000\nquery 0x5ff000 0x1000\naccept 0x5ff000 0x1000\n";
+    let mut files = Vec::new(alloc);
+    files.push((String::from_str(alloc, "A")?, MAP.to_vec(alloc)?))?;
+    files.push((String::from_str(alloc, "T")?, table.to_vec(alloc)?))?;
+    files.push((String::from_str(alloc, "s")?, script.to_vec(alloc)?))?;
+    let mut files = MemFiles::new(alloc, files, failing);
+    let mut all = Vec::new(alloc);
+    for word in words.split(' ') {
+        all.push(String::from_str(alloc, word)?)?;
+    }
+    let mut ports = ports_failing(alloc, Vec::new(alloc))?;
+    let ended = top(alloc, all.as_slice(), &mut files, out, &mut ports);
+    Ok(ended.status)
+}
+
+/// The words that name a table last.
+const TABLE_WORDS: &str = "turns order --slots 0 A s --table T";
+
+#[test]
+fn a_table_at_each_place(rt: HostRuntime) -> Result<(), Fail> {
+    let alloc = rt.alloc();
+    let table = quarter_table(alloc)?;
+    let places = [
+        "turns --table T order --slots 0 A s",
+        "turns order --slots 0 --table=T A s",
+        TABLE_WORDS,
+    ];
+    for words in places {
+        let mut out = MemSink::new(alloc, Vec::new(alloc));
+        let status = with_table(alloc, words, table.as_slice(), Vec::new(alloc), &mut out)?;
+        assert_eq!(rt; status, 0);
+        assert_eq!(rt;
+            out.written(),
+            b"cpu 0\n1 ok accepted\n2 ok unaccepted\n3 ok 1\npages\n0x0-0x601000 accepted\n0x601000-0xc00000 pending\nend\n".as_slice()
+        );
+    }
+    Ok(())
+}
+
+#[test]
+fn a_table_that_is_refused(rt: HostRuntime) -> Result<(), Fail> {
+    let alloc = rt.alloc();
+    let other_unit = table_file(alloc, 0x3000, 0x40_0000, &[255])?;
+    let mut out = MemSink::new(alloc, Vec::new(alloc));
+    let status = with_table(
+        alloc,
+        TABLE_WORDS,
+        other_unit.as_slice(),
+        Vec::new(alloc),
+        &mut out,
+    )?;
+    assert_eq!(rt; status, 3);
+    assert_eq!(rt; out.written(), b"refused: T: unit 12288\n".as_slice());
+    let accepted = table_file(alloc, 0x20_0000, 0, &[1])?;
+    let mut out = MemSink::new(alloc, Vec::new(alloc));
+    let status = with_table(
+        alloc,
+        TABLE_WORDS,
+        accepted.as_slice(),
+        Vec::new(alloc),
+        &mut out,
+    )?;
+    assert_eq!(rt; status, 3);
+    assert_eq!(rt; out.written(), b"refused: T: bit 0\n".as_slice());
+    let mut out = MemSink::new(alloc, Vec::new(alloc));
+    let status = with_table(alloc, TABLE_WORDS, &[0; 23], Vec::new(alloc), &mut out)?;
+    assert_eq!(rt; status, 3);
+    assert_eq!(rt; out.written(), b"refused: T: short 23\n".as_slice());
+    Ok(())
+}
+
+#[test]
+fn a_table_that_is_not_read(rt: HostRuntime) -> Result<(), Fail> {
+    let alloc = rt.alloc();
+    let table = quarter_table(alloc)?;
+    let mut out = MemSink::new(alloc, Vec::new(alloc));
+    let failing = vec![in alloc; 3]?;
+    let status = with_table(alloc, TABLE_WORDS, table.as_slice(), failing, &mut out)?;
+    assert_eq!(rt; status, 4);
+    assert_eq!(rt; out.written(), b"failed: read T\n".as_slice());
     Ok(())
 }

@@ -1,29 +1,35 @@
 //! The files of a run.
 ghost use Rattle.std.specs.Prelude.{◌≡◌, ◌≤◌, [], ◌∷◌, ◌++◌, ℕ, true, false, List, None, Some, Ok, length, All, IfOk, IfErr, OnOk};
 ghost use Rattle.std.specs.List.{list_all};
+ghost use Rattle.std.specs.Option.{option_map, option_to_list};
+ghost use Rattle.event_core.specs.Given.{FitsGiven};
 ghost use Rattle.event_core.specs.Map.{MapRules};
+ghost use Rattle.event_core.specs.Table.{FitsTable, bad_unit};
 ghost use Rattle.efi_map.specs.MapFile.{map_of};
 ghost use Rattle.guest_script.specs.Script.{script_of};
-ghost use Rattle.guest_run.specs.Causes.{limit_of, content_cause, IsGood};
-ghost use Rattle.guest_run.specs.Endings.{names_to, AreGood, IsMapOf};
+ghost use Rattle.guest_words.specs.Views.{seen};
+ghost use Rattle.unaccepted_bitmap.specs.TableFile.{table_of};
+ghost use Rattle.guest_run.specs.Causes.{limit_of, content_cause, IsGood, IsMapOf};
+ghost use Rattle.guest_run.specs.Endings.{names_to, AreGood, IsGiven, IsTableOf};
 ghost use Rattle.guest_run.specs.First.{is_first, IsFirstCommand};
-ghost use Rattle.guest_run.specs.Stopping.{AsksOne, Finds, Stopped, StopsAt};
-ghost use Rattle.guest_run.specs.Stops.{name_of};
-ghost use Rattle.guest_run.specs.Views.{seen};
+ghost use Rattle.guest_run.specs.Stopping.{AsksOne, content_by, Finds, FindsBy, Stopped, StopsAt, StopsAtTable};
+ghost use Rattle.guest_run.specs.Stops.{name_of, IsNamed};
 
-use crate::stop::{Cause, InputFile, Stop};
-use crate::words::Names;
+use crate::stop::{Cause, InputFile, Stop, name_in};
 use efi_map::{GuestMap, MapFault, read_map};
 use event_core::{Command, Script};
 use guest_base::Bytes;
 use guest_io::{Files, ReadFault};
 use guest_script::{ScriptFault, read_script};
+use guest_words::Names;
 use std::alloc::Global;
+use unaccepted_bitmap::{BadBit, Bitmap, TableFault, read_table};
 
 /// What a run is told to do.
 #[derive(Debug, Drop)]
 pub(crate) struct Input {
     pub(crate) map: GuestMap,
+    pub(crate) table: Option<Bitmap>,
     pub(crate) script: Script,
 }
 
@@ -42,7 +48,7 @@ fn read_file<F: Files>(
     ensures same_files { F.holds files.new ≡ F.holds files.old }
     ensures faults_kept { F.faults files.old ≤ F.faults files.new }
 {
-    match files.read_all(alloc, names.of(file), file.limit()) {
+    match files.read_all(alloc, name_in(names, file), file.limit()) {
         Ok(bytes) => Ok(bytes),
         Err(ReadFault::Failed) => Err(Stop::NotRead(file)),
         Err(ReadFault::TooLong) => Err(Stop::Refused(file, Cause::TooLong)),
@@ -72,6 +78,33 @@ fn map_in(alloc: Global, bytes: &[u8]) -> Result<GuestMap, Stop>
         Ok(map) => Ok(map),
         Err(MapFault::NoMemory) => Err(Stop::NoMemory),
         Err(fault) => Err(Stop::Refused(InputFile::Map, Cause::OfMap(fault))),
+    }
+}
+
+/// A table, where it fits the map.
+fn fitting(table: Bitmap, map: &GuestMap) -> Result<Bitmap, Stop>
+    requires rules { MapRules map.now.descriptors map.now.hosts }
+    ensures same { IfOk result (λ fitting. fitting ≡ table) }
+    ensures fits { OnOk result (FitsTable map.now.descriptors table) }
+    ensures fault { IfErr result (λ stop. FindsBy InputFile.Table (option_map Cause.BadBit (bad_unit map.now.descriptors table)) stop) }
+{
+    match table.fit(map) {
+        Ok(table) => Ok(table),
+        Err(BadBit(unit)) => Err(Stop::Refused(InputFile::Table, Cause::BadBit(unit))),
+    }
+}
+
+/// The table of a file's bytes, which fits the map.
+fn table_in(alloc: Global, bytes: &[u8], map: &GuestMap) -> Result<Bitmap, Stop>
+    requires rules { MapRules map.now.descriptors map.now.hosts }
+    ensures table { IfOk result (λ table. table_of bytes.now ≡ Ok table) }
+    ensures fits { IfOk result (λ table. FitsTable map.now.descriptors table) }
+    ensures fault { IfErr result (λ stop. FindsBy InputFile.Table (content_by map.now.descriptors bytes.now) stop) }
+{
+    match read_table(alloc, bytes) {
+        Ok(table) => fitting(table, map),
+        Err(TableFault::NoMemory) => Err(Stop::NoMemory),
+        Err(fault) => Err(Stop::Refused(InputFile::Table, Cause::OfTable(fault))),
     }
 }
 
@@ -149,6 +182,51 @@ fn read_guest_map<F: Files>(
     map_in(alloc, bytes.as_slice())
 }
 
+/// Reads the table file, which a word names.
+fn read_named_table<F: Files>(
+    alloc: Global,
+    files: &mut F,
+    names: &Names<'_>,
+    map: &GuestMap,
+) -> Result<Bitmap, Stop>
+    requires rules { MapRules map.now.descriptors map.now.hosts }
+    ensures table { IfOk result (λ table. (bytes : List ℕ) → F.holds files.old (name_of (seen names.now) InputFile.Table) ≡ Some bytes → table_of bytes ≡ Ok table) }
+    ensures fits { IfOk result (λ table. FitsTable map.now.descriptors table) }
+    ensures short { OnOk result ((bytes : List ℕ) → F.holds files.old (name_of (seen names.now) InputFile.Table) ≡ Some bytes → length bytes ≤ limit_of InputFile.Table) }
+    ensures stop { IfErr result (λ stop. StopsAtTable map.now.descriptors (F.holds files.old) (seen names.now) (F.faults files.old) (F.faults files.new) stop) }
+    ensures asked { OnOk result (F.asked files.new ≡ F.asked files.old ++ name_of (seen names.now) InputFile.Table ∷ []) }
+    ensures asks { IfErr result (λ stop. AsksOne (name_of (seen names.now) InputFile.Table) (F.asked files.old) (F.asked files.new) stop) }
+    ensures same_files { F.holds files.new ≡ F.holds files.old }
+    ensures faults_kept { F.faults files.old ≤ F.faults files.new }
+{
+    let bytes = read_file(alloc, files, names, InputFile::Table)?;
+    table_in(alloc, bytes.as_slice(), map)
+}
+
+/// Reads the table file, where a word names it.
+fn read_given_table<F: Files>(
+    alloc: Global,
+    files: &mut F,
+    names: &Names<'_>,
+    map: &GuestMap,
+) -> Result<Option<Bitmap>, Stop>
+    requires rules { MapRules map.now.descriptors map.now.hosts }
+    ensures table { IfOk result (λ table. IsTableOf (F.holds files.old) (seen names.now).table table) }
+    ensures fits { IfOk result (λ table. FitsGiven map.now.descriptors table) }
+    ensures good { OnOk result (IsMapOf (F.holds files.old) (seen names.now) map.now → IsGood (F.holds files.old) (seen names.now) InputFile.Table) }
+    ensures is_named { IfErr result (λ _. IsNamed (seen names.now) InputFile.Table) }
+    ensures stop { IfErr result (λ stop. StopsAtTable map.now.descriptors (F.holds files.old) (seen names.now) (F.faults files.old) (F.faults files.new) stop) }
+    ensures asked { OnOk result (F.asked files.new ≡ F.asked files.old ++ option_to_list (seen names.now).table) }
+    ensures asks { IfErr result (λ stop. AsksOne (name_of (seen names.now) InputFile.Table) (F.asked files.old) (F.asked files.new) stop) }
+    ensures same_files { F.holds files.new ≡ F.holds files.old }
+    ensures faults_kept { F.faults files.old ≤ F.faults files.new }
+{
+    match names.table {
+        None => Ok(None),
+        Some(_) => Ok(Some(read_named_table(alloc, files, names, map)?)),
+    }
+}
+
 /// Reads the script file.
 fn read_commands<F: Files>(alloc: Global, files: &mut F, names: &Names<'_>) -> Result<Script, Stop>
     ensures good { OnOk result (IsGood (F.holds files.old) (seen names.now) InputFile.Script) }
@@ -165,14 +243,14 @@ fn read_commands<F: Files>(alloc: Global, files: &mut F, names: &Names<'_>) -> R
     script_in(alloc, bytes.as_slice())
 }
 
-/// Reads each file in the order of the words; each is checked before the next is read.
+/// Reads each file: the order, the map, the table where one is named, and the script. Each is checked before the next is read.
 pub(crate) fn read_input<F: Files>(
     alloc: Global,
     files: &mut F,
     names: &Names<'_>,
 ) -> Result<Input, Stop>
     ensures good { OnOk result (AreGood (F.holds files.old) (seen names.now)) }
-    ensures map { IfOk result (λ input. IsMapOf (F.holds files.old) (seen names.now) input.map) }
+    ensures given { IfOk result (λ input. IsGiven (F.holds files.old) (seen names.now) input.map input.table) }
     ensures script { IfOk result (λ input. (bytes : List ℕ) → F.holds files.old (seen names.now).script ≡ Some bytes → script_of bytes ≡ Ok input.script) }
     ensures few { IfOk result (λ input. length input.script ≤ 2048) }
     ensures first { IfOk result (λ input. All IsFirstCommand input.script) }
@@ -184,6 +262,7 @@ pub(crate) fn read_input<F: Files>(
 {
     read_order(alloc, files, names)?;
     let map = read_guest_map(alloc, files, names)?;
+    let table = read_given_table(alloc, files, names, &map)?;
     let script = read_commands(alloc, files, names)?;
-    Ok(Input { map, script })
+    Ok(Input { map, table, script })
 }

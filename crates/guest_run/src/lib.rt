@@ -11,7 +11,6 @@ mod room;
 mod run;
 mod spans;
 mod stop;
-mod words;
 
 pub use one::turns;
 pub use program::{Ended, plain, top};

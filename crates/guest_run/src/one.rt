@@ -1,9 +1,11 @@
 //! A run on one thread.
-ghost use Rattle.std.specs.Prelude.{◌≡◌, ℕ, List, [], ◌∷◌, ◌≤◌, length, All, IfOk};
+ghost use Rattle.std.specs.Prelude.{◌≡◌, ℕ, List, Option, [], ◌∷◌, ◌≤◌, length, All, IfOk};
 ghost use Rattle.guest_base.specs.declared.memory.HostRun.{HostRun};
 ghost use Rattle.event_core.specs.declared.boot.Descriptor.{Descriptor};
 ghost use Rattle.event_core.specs.Map.{MapRules};
 ghost use Rattle.event_core.specs.Boot.{BootRight};
+ghost use Rattle.event_core.specs.Given.{FitsGiven};
+ghost use Rattle.event_core.specs.Table.{Bits};
 ghost use Rattle.event_core.specs.Calls.{calls_of};
 ghost use Rattle.event_core.specs.Runs.{AreMaximalRuns};
 ghost use Rattle.event_core.specs.MemoryRows.{page_state};
@@ -34,7 +36,7 @@ pub fn turns<P: Port>(
     port: &mut P,
 ) -> Result<(Recorded, Runs), AllocError>
     requires stands { WorldStands world }
-    requires right { (map : List Descriptor) × (hosts : List HostRun) × (slots areas : ℕ) × MapRules map hosts × BootRight map hosts slots areas 1 world.boot }
+    requires right { (map : List Descriptor) × (hosts : List HostRun) × (table : Option Bits) × (slots areas : ℕ) × MapRules map hosts × FitsGiven map table × BootRight map hosts table slots areas 1 world.boot }
     requires made { P.made port.old ≡ world.boot.calls }
     requires few { length script ≤ 2048 }
     requires first { All IsFirstCommand script }
@@ -62,7 +64,7 @@ pub fn turns<P: Port>(
 /// The processor before its first command.
 fn started(alloc: Global, world: World, script: Script) -> Processor
     requires stands { WorldStands world }
-    requires right { (map : List Descriptor) × (hosts : List HostRun) × (slots areas : ℕ) × MapRules map hosts × BootRight map hosts slots areas 1 world.boot }
+    requires right { (map : List Descriptor) × (hosts : List HostRun) × (table : Option Bits) × (slots areas : ℕ) × MapRules map hosts × FitsGiven map table × BootRight map hosts table slots areas 1 world.boot }
     ensures ready { Ready result 0 }
     ensures no_entry { result.entries ≡ [] }
     ensures calls { calls_by_now result ≡ world.boot.calls }

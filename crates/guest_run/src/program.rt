@@ -17,15 +17,15 @@ ghost use Rattle.guest_run.specs.Recordings.{Booted, BootedBy, CutAfter, History
 ghost use Rattle.guest_run.specs.Replies.{FaultsTold, PortsMade};
 ghost use Rattle.guest_run.specs.Stopping.{EndsWith, StopEnds};
 ghost use Rattle.guest_run.specs.Stops.{words_line};
-ghost use Rattle.guest_run.specs.Views.{seen};
-ghost use Rattle.guest_run.specs.Words.{bytes_of_words, named_by};
+ghost use Rattle.guest_words.specs.Views.{seen};
+ghost use Rattle.guest_words.specs.Words.{bytes_of_words, named_by};
 
 use crate::print::put_run;
 use crate::run::run;
 use crate::stop::{InputFile, Stop, print_stop};
-use crate::words::{Names, read_words};
 use event_core::{Recorded, Runs};
 use guest_io::{Files, PutFault, Sink};
+use guest_words::{Names, read_words};
 use page_module::Port;
 use std::alloc::{AllocError, Global};
 
@@ -160,6 +160,10 @@ fn run_named<F: Files, K: Sink, P: Port>(
 
 /// Does what the words say, on one thread: `turns ORDER --slots 0 MAP SCRIPT` reads the three files in this order, boots the map
 /// without a pool, runs the script on the first port, and puts the text of the run.
+///
+/// `--table FILE` names the table of unaccepted units that an earlier kernel hands on. It is read right after the map, and boot takes
+/// its bits for those of the map. `--areas N` tells the areas of the pool, a power of two from 1 to 64, which is 1 where it isn't told.
+/// `read_words` tells where options may stand.
 ///
 /// Today the order file has to be empty, and the script one of `accept` and `query` lines.
 pub fn plain<F: Files, K: Sink, P: Port>(

@@ -1,21 +1,26 @@
 //! Why a run ends before its text.
 ghost use Rattle.std.specs.Prelude.{◌≡◌, ◌≢◌, ◌++◌, codes, string_bytes, IfOk};
 ghost use Rattle.guest_run.specs.declared.stop.Stop.TheVariants.{NoMemory};
-ghost use Rattle.guest_run.specs.Stops.{map_fault_text, script_fault_text, why_text, cause_text, refused_line, not_read_line, status_of, stop_line};
+ghost use Rattle.guest_run.specs.Stops.{name_of, map_fault_text, table_fault_text, script_fault_text, why_text, cause_text, refused_line, not_read_line, status_of, stop_line};
 ghost use Rattle.guest_run.specs.Causes.{limit_of};
-ghost use Rattle.guest_run.specs.Views.{seen};
+ghost use Rattle.guest_words.specs.Views.{seen};
 
-use crate::words::Names;
 use efi_map::MapFault;
 use guest_base::limits::{MAX_MAP_BYTES, MAX_ORDER_BYTES, MAX_SCRIPT_BYTES};
 use guest_script::{ScriptFault, Why};
+use guest_words::Names;
 use std::alloc::{AllocError, Global};
+use unaccepted_bitmap::TableFault;
+
+/// The most bytes of a table file: its fields, and a bit for each page of memory.
+const MAX_TABLE_BYTES: u64 = 33_554_456;
 
 /// A file that the words name.
 #[derive(Clone, Copy, Debug, PartialEq, Eq)]
 pub(crate) enum InputFile {
     Order,
     Map,
+    Table,
     Script,
 }
 
@@ -28,6 +33,10 @@ pub(crate) enum Cause {
     Later,
     /// It isn't a map file.
     OfMap(MapFault),
+    /// It isn't a table file.
+    OfTable(TableFault),
+    /// This unit's bit is set in the table, and the unit doesn't lie in unaccepted memory.
+    BadBit(u64),
     /// It isn't a script file.
     OfScript(ScriptFault),
 }
@@ -53,8 +62,24 @@ impl InputFile {
         match self {
             InputFile::Order => MAX_ORDER_BYTES,
             InputFile::Map => MAX_MAP_BYTES,
+            InputFile::Table => MAX_TABLE_BYTES,
             InputFile::Script => MAX_SCRIPT_BYTES,
         }
+    }
+}
+
+/// The name of a file. That of a table that no word names is empty.
+pub(crate) fn name_in<'a>(names: &Names<'a>, file: InputFile) -> &'a str
+    ensures { result.now ≡ name_of (seen names.now) file }
+{
+    match file {
+        InputFile::Order => names.order,
+        InputFile::Map => names.map,
+        InputFile::Table => match names.table {
+            Some(name) => name,
+            None => "",
+        },
+        InputFile::Script => names.script,
     }
 }
 
@@ -100,6 +125,20 @@ fn print_map_fault(alloc: Global, fault: MapFault) -> Result<String, AllocError>
     }
 }
 
+/// What is wrong with a table file.
+fn print_table_fault(alloc: Global, fault: TableFault) -> Result<String, AllocError>
+    ensures { IfOk result (λ text. string_bytes text ≡ table_fault_text fault) }
+{
+    match fault {
+        TableFault::Short(length) => format!(in alloc; "short {length}"),
+        TableFault::BadVersion(version) => format!(in alloc; "version {version}"),
+        TableFault::BadUnit(unit) => format!(in alloc; "unit {unit}"),
+        TableFault::BadBase(base) => format!(in alloc; "base {base}"),
+        TableFault::BadLength(length) => format!(in alloc; "length {length}"),
+        TableFault::NoMemory => String::from_str(alloc, "memory"),
+    }
+}
+
 /// What is wrong with a line of a script, in a word.
 fn why_word(why: Why) -> &'static str
     ensures { result.now ≡ why_text why }
@@ -137,6 +176,8 @@ fn print_cause(alloc: Global, cause: Cause) -> Result<String, AllocError>
         Cause::TooLong => String::from_str(alloc, "too long"),
         Cause::Later => String::from_str(alloc, "later"),
         Cause::OfMap(fault) => print_map_fault(alloc, fault),
+        Cause::OfTable(fault) => print_table_fault(alloc, fault),
+        Cause::BadBit(unit) => format!(in alloc; "bit {unit}"),
         Cause::OfScript(fault) => print_script_fault(alloc, fault),
     }
 }
@@ -147,8 +188,8 @@ pub(crate) fn print_stop(alloc: Global, names: &Names<'_>, stop: Stop) -> Result
     ensures memory { IfOk result (λ _. stop ≢ Stop.NoMemory) }
 {
     match stop {
-        Stop::Refused(file, cause) => print_refused(alloc, names.of(file), cause),
-        Stop::NotRead(file) => print_not_read(alloc, names.of(file)),
+        Stop::Refused(file, cause) => print_refused(alloc, name_in(names, file), cause),
+        Stop::NotRead(file) => print_not_read(alloc, name_in(names, file)),
         Stop::Module => String::from_str(alloc, "failed: boot\n"),
         Stop::NoMemory => Err(AllocError),
     }

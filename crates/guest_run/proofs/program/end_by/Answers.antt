@@ -1,5 +1,5 @@
 use Rattle.std.proofs.Common.{◌∙◌}
-use Rattle.guest_run.specs.Views.{seen}
+use Rattle.guest_words.specs.Views.{seen}
 use Rattle.guest_run.proofs.EndLemmas.{ends_of}
 use Rattle.guest_run.proofs.program.end_by.Goals as goal
 

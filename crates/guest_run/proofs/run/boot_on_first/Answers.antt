@@ -6,7 +6,7 @@ pub returns-in-Ok-clause-others : goal.returns-in-Ok-clause-others
 returns-in-Ok-clause-others g c = others_kept g.P.Port.made c.args.ports.now.items c.boot.new.port c.requires.unmade
 
 pub returns-in-Err-Module-clause-stop : goal.returns-in-Err-Module-clause-stop
-returns-in-Err-Module-clause-stop g c = boot_failed g.P.Port.made g.P.Port.faults c.args.ports.now.items c.index_mut.result.now c.boot.new.port c.args.map.now c.in-Err-Module.field-0-0 c.requires.some c.requires.unmade c.index_mut.ensures.value (c.in-Err-Module.ensures.stopped c.in-Err-Module.field-0-0 (ap Err c.in-Err-Module.field-0-is)) (c.in-Err-Module.ensures.failed c.in-Err-Module.field-0-0 (ap Err c.in-Err-Module.field-0-is))
+returns-in-Err-Module-clause-stop g c = boot_failed g.P.Port.made g.P.Port.faults c.args.ports.now.items c.index_mut.result.now c.boot.new.port c.args.map.now c.args.table c.args.areas c.in-Err-Module.field-0-0 c.requires.some c.requires.unmade c.index_mut.ensures.value (c.in-Err-Module.ensures.stopped c.in-Err-Module.field-0-0 (ap Err c.in-Err-Module.field-0-is)) (c.in-Err-Module.ensures.failed c.in-Err-Module.field-0-0 (ap Err c.in-Err-Module.field-0-is))
 
 pub returns-in-Err-Module-clause-others : goal.returns-in-Err-Module-clause-others
 returns-in-Err-Module-clause-others g c = others_kept g.P.Port.made c.args.ports.now.items c.boot.new.port c.requires.unmade

@@ -6,4 +6,4 @@ pub returns-clause-made : goal.returns-clause-made
 returns-clause-made g c = turned_ports g.P.Port.made c.args.ports.now.items c.turns.new.port c.args.script c.turns.result c.requires.some c.requires.others c.turns.ensures.scripts c.turns.ensures.history c.turns.ensures.made
 
 pub returns-clause-within : goal.returns-clause-within
-returns-clause-within g c = within_of c.requires.right.0 c.requires.right.1 c.requires.right.2 c.requires.right.3 c.args.world.boot c.turns.result c.requires.right.4 c.requires.right.5 c.turns.ensures.boot c.turns.ensures.accepted_once c.turns.ensures.runs
+returns-clause-within g c = within_of c.requires.right.0 c.requires.right.1 c.requires.right.2 c.requires.right.3 c.requires.right.4 c.args.world.boot c.turns.result c.requires.right.5 c.requires.right.7 c.turns.ensures.boot c.turns.ensures.accepted_once c.turns.ensures.runs
