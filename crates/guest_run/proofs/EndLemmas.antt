@@ -1,4 +1,4 @@
-use Rattle.std.proofs.Common.{◌≡◌, ℕ, ◌<◌, ◌⊎◌, List, ◌++◌, Option, None, Some, refl, sym, ◌∙◌, ap, subst, inl, inr, arith}
+use Rattle.std.proofs.Common.{◌≡◌, ℕ, ◌<◌, ◌≤◌, ◌⊎◌, List, ◌++◌, Option, None, Some, refl, sym, ◌∙◌, ap, subst, inl, inr, arith}
 use Rattle.std.specs.Prelude.{Result, Ok, Err, IfErr}
 use Rattle.guest_base.specs.Counts.{Rose}
 use Rattle.event_core.specs.declared.module_call.ModuleCall.{ModuleCall}
@@ -7,8 +7,8 @@ use Rattle.guest_run.specs.declared.stop.InputFile.{InputFile}
 use Rattle.guest_run.specs.declared.stop.InputFile.TheVariants.{Order, Map, Table, Script}
 use Rattle.guest_run.specs.declared.stop.Stop.{Stop}
 use Rattle.guest_run.specs.declared.stop.Stop.TheVariants.{Refused, NotRead, Module, NoMemory}
-use Rattle.guest_run.specs.Causes.{cause_by, HasCause, IsToldCause, IsGood, IsToldGood, IsRefused, IsToldRefused}
-use Rattle.guest_run.specs.Endings.{names_of, names_to, AreGood, AreToldGood, AsksFront, BootStops, IsGiven, Put, PutFront, RefusesFirstOf, SaysRefused, SaysNotRead, SaysBootStopped}
+use Rattle.guest_run.specs.Causes.{cause_by, HasCause, IsToldCause, IsGood, IsToldGood, IsRefused, IsToldRefused, OfEachBefore}
+use Rattle.guest_run.specs.Endings.{names_of, names_to, place_of, AreGood, AreToldGood, AsksFront, BootStops, IsGiven, IsNotRead, Put, PutFront, RefusesFirstOf, SaysRefused, SaysNotRead, SaysNotReadUpTo, SaysBootStopped}
 use Rattle.guest_run.specs.Ends.{IsKnown}
 use Rattle.guest_run.specs.Stopping.{BootFails, EndsWith, StopEnds, Stopped}
 use Rattle.guest_run.specs.Stops.{name_of, refused_line, boot_line, stop_line, status_of}
@@ -62,6 +62,22 @@ same_first holds named Script Map a b refused told = good_told holds named Map b
 same_first holds named Script Table a b refused told = good_told holds named Table b refused.before.2 told
 same_first holds named Script Script a b refused told = (refl, one_cause holds named Script a b refused told)
 
+-- what stands before a file that is good so far isn't told to be refused
+not_behind : (holds : List ℕ → Option (List ℕ)) (named : Named) (at file : InputFile) (cause : Cause) → OfEachBefore (IsGood holds named) at → IsToldRefused holds named file cause → place_of at ≤ place_of file
+not_behind holds named Order file cause good told = omega arith
+not_behind holds named Map Order cause good told = good_told holds named Order cause good told
+not_behind holds named Map Map cause good told = omega arith
+not_behind holds named Map Table cause good told = omega arith
+not_behind holds named Map Script cause good told = omega arith
+not_behind holds named Table Order cause good told = good_told holds named Order cause good.0 told
+not_behind holds named Table Map cause good told = good_told holds named Map cause good.1 told
+not_behind holds named Table Table cause good told = omega arith
+not_behind holds named Table Script cause good told = omega arith
+not_behind holds named Script Order cause good told = good_told holds named Order cause good.0 told
+not_behind holds named Script Map cause good told = good_told holds named Map cause good.1 told
+not_behind holds named Script Table cause good told = good_told holds named Table cause good.2 told
+not_behind holds named Script Script cause good told = omega arith
+
 -- ---- a line
 
 put_of : (before after : Option (List ℕ)) (sink_before sink_after : ℕ) (line : List ℕ) (status ended : ℕ) → EndsWith before after sink_before sink_after line status ended → ended ≡ status → (5 ≡ status → ⊥) → (6 ≡ status → ⊥) → Put before after line
@@ -84,10 +100,15 @@ known_with before after sink_before sink_after line status ended known (inl h) =
 known_with before after sink_before sink_after line status ended known (inr (inl h)) = inr (inr (inr (inr (inl h.0))))
 known_with before after sink_before sink_after line status ended known (inr (inr h)) = inr (inr (inr (inr (inr (inl h)))))
 
-three_or : (before after : Option (List ℕ)) (sink_before sink_after : ℕ) (line : List ℕ) (ended : ℕ) → EndsWith before after sink_before sink_after line 3 ended → ((ended ≡ 3) × Put before after line) ⊎ (ended ≡ 5) ⊎ (ended ≡ 6)
-three_or before after sink_before sink_after line ended (inl h) = inl h
-three_or before after sink_before sink_after line ended (inr (inl h)) = inr (inl h.0)
-three_or before after sink_before sink_after line ended (inr (inr h)) = inr (inr h)
+three_or : (before after : Option (List ℕ)) (sink_before sink_after : ℕ) (line : List ℕ) (ended : ℕ) (Four : Type 0) → EndsWith before after sink_before sink_after line 3 ended → ((ended ≡ 3) × Put before after line) ⊎ Four ⊎ (ended ≡ 5) ⊎ (ended ≡ 6)
+three_or before after sink_before sink_after line ended Four (inl h) = inl h
+three_or before after sink_before sink_after line ended Four (inr (inl h)) = inr (inr (inl h.0))
+three_or before after sink_before sink_after line ended Four (inr (inr h)) = inr (inr (inr h))
+
+not_read_or : (holds : List ℕ → Option (List ℕ)) (named : Named) (file : InputFile) (faults_before faults_after : ℕ) (asked_before asked_after : List (List ℕ)) (before after : Option (List ℕ)) (sink_before sink_after : ℕ) (at : InputFile) (ended : ℕ) {Three : Type 0} → place_of at ≤ place_of file → IsNotRead holds named faults_before faults_after asked_before asked_after at → EndsWith before after sink_before sink_after (stop_line named (NotRead at)) 4 ended → Three ⊎ ((ended ≡ 4) × SaysNotReadUpTo file holds faults_before faults_after asked_before asked_after (Put before after) named) ⊎ (ended ≡ 5) ⊎ (ended ≡ 6)
+not_read_or holds named file faults_before faults_after asked_before asked_after before after sink_before sink_after at ended behind fault (inl h) = inr (inl (h.0, (at, behind, fault, h.1)))
+not_read_or holds named file faults_before faults_after asked_before asked_after before after sink_before sink_after at ended behind fault (inr (inl h)) = inr (inr (inl h.0))
+not_read_or holds named file faults_before faults_after asked_before asked_after before after sink_before sink_after at ended behind fault (inr (inr h)) = inr (inr (inr h))
 
 -- ---- how a stop ends
 
@@ -99,9 +120,9 @@ refused_of made faults ports_before ports_after holds named faults_before faults
 refused_of made faults ports_before ports_after holds named faults_before faults_after asked_before asked_after before after sink_before sink_after NoMemory ended stopped ends is = absurd (omega (arith, ends, is))
 
 -- status 4
-pub not_read_of : {P : Type 0} (made : P → List ModuleCall) (faults : P → ℕ) (ports_before ports_after : List P) (holds : List ℕ → Option (List ℕ)) (named : Named) (faults_before faults_after : ℕ) (asked_before asked_after : List (List ℕ)) (before after : Option (List ℕ)) (sink_before sink_after : ℕ) (stop : Stop) (ended : ℕ) → Stopped holds named faults_before faults_after asked_before asked_after (BootStops made faults ports_before ports_after holds named) stop → StopEnds before after sink_before sink_after named stop ended → ended ≡ 4 → SaysNotRead faults_before faults_after asked_before asked_after (Put before after) named
+pub not_read_of : {P : Type 0} (made : P → List ModuleCall) (faults : P → ℕ) (ports_before ports_after : List P) (holds : List ℕ → Option (List ℕ)) (named : Named) (faults_before faults_after : ℕ) (asked_before asked_after : List (List ℕ)) (before after : Option (List ℕ)) (sink_before sink_after : ℕ) (stop : Stop) (ended : ℕ) → Stopped holds named faults_before faults_after asked_before asked_after (BootStops made faults ports_before ports_after holds named) stop → StopEnds before after sink_before sink_after named stop ended → ended ≡ 4 → SaysNotRead holds faults_before faults_after asked_before asked_after (Put before after) named
 not_read_of made faults ports_before ports_after holds named faults_before faults_after asked_before asked_after before after sink_before sink_after (Refused file cause) ended stopped ends is = never before after sink_before sink_after (stop_line named (Refused file cause)) 3 ended 4 ends is (λ e. omega (arith, e)) (λ e. omega (arith, e)) (λ e. omega (arith, e))
-not_read_of made faults ports_before ports_after holds named faults_before faults_after asked_before asked_after before after sink_before sink_after (NotRead file) ended stopped ends is = (file, stopped.0, stopped.1, stopped.2, put_of before after sink_before sink_after (stop_line named (NotRead file)) 4 ended ends is (λ e. omega (arith, e)) (λ e. omega (arith, e)))
+not_read_of made faults ports_before ports_after holds named faults_before faults_after asked_before asked_after before after sink_before sink_after (NotRead file) ended stopped ends is = (file, stopped, put_of before after sink_before sink_after (stop_line named (NotRead file)) 4 ended ends is (λ e. omega (arith, e)) (λ e. omega (arith, e)))
 not_read_of made faults ports_before ports_after holds named faults_before faults_after asked_before asked_after before after sink_before sink_after Module ended stopped ends is = never before after sink_before sink_after boot_line 7 ended 4 ends is (λ e. omega (arith, e)) (λ e. omega (arith, e)) (λ e. omega (arith, e))
 not_read_of made faults ports_before ports_after holds named faults_before faults_after asked_before asked_after before after sink_before sink_after NoMemory ended stopped ends is = absurd (omega (arith, ends, is))
 
@@ -113,9 +134,9 @@ boot_stopped_of made faults ports_before ports_after holds named faults_before f
 boot_stopped_of made faults ports_before ports_after holds named faults_before faults_after asked_before asked_after before after sink_before sink_after NoMemory ended stopped ends is = absurd (omega (arith, ends, is))
 
 -- status 5
-pub cut_line_of : {P : Type 0} (made : P → List ModuleCall) (faults : P → ℕ) (ports_before ports_after : List P) (holds : List ℕ → Option (List ℕ)) (named : Named) (faults_before faults_after : ℕ) (asked_before asked_after : List (List ℕ)) (before after : Option (List ℕ)) (sink_before sink_after : ℕ) (stop : Stop) (ended : ℕ) → Stopped holds named faults_before faults_after asked_before asked_after (BootStops made faults ports_before ports_after holds named) stop → StopEnds before after sink_before sink_after named stop ended → ended ≡ 5 → SaysRefused holds (PutFront before after) named ⊎ SaysNotRead faults_before faults_after asked_before asked_after (PutFront before after) named ⊎ SaysBootStopped made faults ports_before ports_after holds (PutFront before after) named
+pub cut_line_of : {P : Type 0} (made : P → List ModuleCall) (faults : P → ℕ) (ports_before ports_after : List P) (holds : List ℕ → Option (List ℕ)) (named : Named) (faults_before faults_after : ℕ) (asked_before asked_after : List (List ℕ)) (before after : Option (List ℕ)) (sink_before sink_after : ℕ) (stop : Stop) (ended : ℕ) → Stopped holds named faults_before faults_after asked_before asked_after (BootStops made faults ports_before ports_after holds named) stop → StopEnds before after sink_before sink_after named stop ended → ended ≡ 5 → SaysRefused holds (PutFront before after) named ⊎ SaysNotRead holds faults_before faults_after asked_before asked_after (PutFront before after) named ⊎ SaysBootStopped made faults ports_before ports_after holds (PutFront before after) named
 cut_line_of made faults ports_before ports_after holds named faults_before faults_after asked_before asked_after before after sink_before sink_after (Refused file cause) ended stopped ends is = inl (file, cause, stopped.0, (front_of before after sink_before sink_after (stop_line named (Refused file cause)) 3 ended ends is (λ e. omega (arith, e))).1)
-cut_line_of made faults ports_before ports_after holds named faults_before faults_after asked_before asked_after before after sink_before sink_after (NotRead file) ended stopped ends is = inr (inl (file, stopped.0, stopped.1, stopped.2, (front_of before after sink_before sink_after (stop_line named (NotRead file)) 4 ended ends is (λ e. omega (arith, e))).1))
+cut_line_of made faults ports_before ports_after holds named faults_before faults_after asked_before asked_after before after sink_before sink_after (NotRead file) ended stopped ends is = inr (inl (file, stopped, (front_of before after sink_before sink_after (stop_line named (NotRead file)) 4 ended ends is (λ e. omega (arith, e))).1))
 cut_line_of made faults ports_before ports_after holds named faults_before faults_after asked_before asked_after before after sink_before sink_after Module ended stopped ends is = inr (inr (stopped.0, (front_of before after sink_before sink_after boot_line 7 ended ends is (λ e. omega (arith, e))).1))
 cut_line_of made faults ports_before ports_after holds named faults_before faults_after asked_before asked_after before after sink_before sink_after NoMemory ended stopped ends is = absurd (omega (arith, ends, is))
 
@@ -143,24 +164,24 @@ other_of made faults ports_before ports_after holds named faults_before faults_a
 -- the names that were asked for
 pub asked_of : {P : Type 0} (made : P → List ModuleCall) (faults : P → ℕ) (ports_before ports_after : List P) (holds : List ℕ → Option (List ℕ)) (named : Named) (faults_before faults_after : ℕ) (asked_before asked_after : List (List ℕ)) (before after : Option (List ℕ)) (sink_before sink_after : ℕ) (stop : Stop) (ended : ℕ) → Stopped holds named faults_before faults_after asked_before asked_after (BootStops made faults ports_before ports_after holds named) stop → AsksFront (names_to named Script) asked_before asked_after
 asked_of made faults ports_before ports_after holds named faults_before faults_after asked_before asked_after before after sink_before sink_after (Refused file cause) ended stopped = (let front = front_to named file in (front.0, stopped.1 ∙ ap (λ names. asked_before ++ names) front.1))
-asked_of made faults ports_before ports_after holds named faults_before faults_after asked_before asked_after before after sink_before sink_after (NotRead file) ended stopped = (let front = front_to named file in (front.0, stopped.2 ∙ ap (λ names. asked_before ++ names) front.1))
+asked_of made faults ports_before ports_after holds named faults_before faults_after asked_before asked_after before after sink_before sink_after (NotRead file) ended stopped = (let front = front_to named file in (front.0, stopped.asked ∙ ap (λ names. asked_before ++ names) front.1))
 asked_of made faults ports_before ports_after holds named faults_before faults_after asked_before asked_after before after sink_before sink_after Module ended stopped = (let front = front_to named Script in (front.0, stopped.1 ∙ ap (λ names. asked_before ++ names) front.1))
 asked_of made faults ports_before ports_after holds named faults_before faults_after asked_before asked_after before after sink_before sink_after NoMemory ended stopped = stopped
 
 -- a file that is told to be the first that is refused
-pub first_refused_of : {P : Type 0} (made : P → List ModuleCall) (faults : P → ℕ) (ports_before ports_after : List P) (holds : List ℕ → Option (List ℕ)) (named : Named) (faults_before faults_after : ℕ) (asked_before asked_after : List (List ℕ)) (before after : Option (List ℕ)) (sink_before sink_after : ℕ) (stop : Stop) (ended : ℕ) → Stopped holds named faults_before faults_after asked_before asked_after (BootStops made faults ports_before ports_after holds named) stop → StopEnds before after sink_before sink_after named stop ended → (Rose faults_before faults_after → ⊥) → RefusesFirstOf holds named (Put before after) ended
-first_refused_of made faults ports_before ports_after holds named faults_before faults_after asked_before asked_after before after sink_before sink_after (Refused at c) ended stopped ends kept file cause told =
+pub first_refused_of : {P : Type 0} (made : P → List ModuleCall) (faults : P → ℕ) (ports_before ports_after : List P) (holds : List ℕ → Option (List ℕ)) (named : Named) (faults_before faults_after : ℕ) (asked_before asked_after : List (List ℕ)) (before after : Option (List ℕ)) (sink_before sink_after : ℕ) (stop : Stop) (ended : ℕ) → Stopped holds named faults_before faults_after asked_before asked_after (BootStops made faults ports_before ports_after holds named) stop → StopEnds before after sink_before sink_after named stop ended → RefusesFirstOf holds named faults_before faults_after asked_before asked_after (Put before after) ended
+first_refused_of made faults ports_before ports_after holds named faults_before faults_after asked_before asked_after before after sink_before sink_after (Refused at c) ended stopped ends file cause told =
     let same = same_first holds named at file c cause stopped.0 told in
-    let L : List ℕ → Type 0 = λ line. ((ended ≡ 3) × Put before after line) ⊎ (ended ≡ 5) ⊎ (ended ≡ 6) in
-    subst L (ap (λ f. refused_line (name_of named f) c) same.0 ∙ ap (refused_line (name_of named file)) same.1) (three_or before after sink_before sink_after (stop_line named (Refused at c)) ended ends)
-first_refused_of made faults ports_before ports_after holds named faults_before faults_after asked_before asked_after before after sink_before sink_after (NotRead at) ended stopped ends kept file cause told = absurd (kept stopped.1)
-first_refused_of made faults ports_before ports_after holds named faults_before faults_after asked_before asked_after before after sink_before sink_after Module ended stopped ends kept file cause told = good_told holds named file cause (stopped.0.good file) told
-first_refused_of made faults ports_before ports_after holds named faults_before faults_after asked_before asked_after before after sink_before sink_after NoMemory ended stopped ends kept file cause told = inr (inr ends)
+    let L : List ℕ → Type 0 = λ line. ((ended ≡ 3) × Put before after line) ⊎ ((ended ≡ 4) × SaysNotReadUpTo file holds faults_before faults_after asked_before asked_after (Put before after) named) ⊎ (ended ≡ 5) ⊎ (ended ≡ 6) in
+    subst L (ap (λ f. refused_line (name_of named f) c) same.0 ∙ ap (refused_line (name_of named file)) same.1) (three_or before after sink_before sink_after (stop_line named (Refused at c)) ended ((ended ≡ 4) × SaysNotReadUpTo file holds faults_before faults_after asked_before asked_after (Put before after) named) ends)
+first_refused_of made faults ports_before ports_after holds named faults_before faults_after asked_before asked_after before after sink_before sink_after (NotRead at) ended stopped ends file cause told = not_read_or holds named file faults_before faults_after asked_before asked_after before after sink_before sink_after at ended (not_behind holds named at file cause stopped.before told) stopped ends
+first_refused_of made faults ports_before ports_after holds named faults_before faults_after asked_before asked_after before after sink_before sink_after Module ended stopped ends file cause told = good_told holds named file cause (stopped.0.good file) told
+first_refused_of made faults ports_before ports_after holds named faults_before faults_after asked_before asked_after before after sink_before sink_after NoMemory ended stopped ends file cause told = inr (inr (inr ends))
 
 -- good files, and no fault of them or of the sink
 pub complete_of : {P : Type 0} (made : P → List ModuleCall) (faults : P → ℕ) (ports_before ports_after : List P) (holds : List ℕ → Option (List ℕ)) (named : Named) (faults_before faults_after : ℕ) (asked_before asked_after : List (List ℕ)) (before after : Option (List ℕ)) (sink_before sink_after : ℕ) (stop : Stop) (ended : ℕ) → Stopped holds named faults_before faults_after asked_before asked_after (BootStops made faults ports_before ports_after holds named) stop → StopEnds before after sink_before sink_after named stop ended → AreToldGood holds named → (Rose faults_before faults_after → ⊥) → (Rose sink_before sink_after → ⊥) → (ended ≡ 0) ⊎ (ended ≡ 6) ⊎ (ended ≡ 7)
 complete_of made faults ports_before ports_after holds named faults_before faults_after asked_before asked_after before after sink_before sink_after (Refused file cause) ended stopped ends good kept sink = told_good holds named file cause stopped.0 (good file)
-complete_of made faults ports_before ports_after holds named faults_before faults_after asked_before asked_after before after sink_before sink_after (NotRead file) ended stopped ends good kept sink = absurd (kept stopped.1)
+complete_of made faults ports_before ports_after holds named faults_before faults_after asked_before asked_after before after sink_before sink_after (NotRead file) ended stopped ends good kept sink = absurd (kept stopped.rose)
 complete_of made faults ports_before ports_after holds named faults_before faults_after asked_before asked_after before after sink_before sink_after Module ended stopped ends good kept sink = elim ends [
   | inl put ↦ inr (inr put.0)
   | inr cut ↦ elim cut [ inl fault ↦ absurd (sink fault.1) | inr none ↦ inr (inl none) ]
@@ -226,8 +247,8 @@ line_put before after line ended (inr (inl six)) is = absurd (omega (arith, six,
 line_put before after line ended (inr (inr put)) is = put
 
 -- what is refused first, and asked for, by the words
-pub first_of_words : (holds : List ℕ → Option (List ℕ)) (words : Option Named) (named other : Named) (Written : List ℕ → Type 0) (status : ℕ) → words ≡ Some named → RefusesFirstOf holds named Written status → words ≡ Some other → RefusesFirstOf holds other Written status
-first_of_words holds words named other Written status is first that = subst (λ n. RefusesFirstOf holds n Written status) (same_named words named other is that) first
+pub first_of_words : (holds : List ℕ → Option (List ℕ)) (words : Option Named) (named other : Named) (faults_before faults_after : ℕ) (asked_before asked_after : List (List ℕ)) (Written : List ℕ → Type 0) (status : ℕ) → words ≡ Some named → RefusesFirstOf holds named faults_before faults_after asked_before asked_after Written status → words ≡ Some other → RefusesFirstOf holds other faults_before faults_after asked_before asked_after Written status
+first_of_words holds words named other faults_before faults_after asked_before asked_after Written status is first that = subst (λ n. RefusesFirstOf holds n faults_before faults_after asked_before asked_after Written status) (same_named words named other is that) first
 
 pub asked_of_words : (words : Option Named) (named : Named) (before after : List (List ℕ)) → words ≡ Some named → AsksFront (names_to named Script) before after → AsksFront (names_of words) before after
 asked_of_words words named before after is asked = subst (λ w. AsksFront (names_of w) before after) (sym is) asked

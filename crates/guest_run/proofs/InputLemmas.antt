@@ -206,7 +206,7 @@ stopped_at holds holds_now named file causes first before after asked_first aske
     subst S (sym stops.0) (record { is_named = here; own = judges cause own; before = good }, asked_to named file asked_first asked_before asked_after here were asks)
 stopped_at holds holds_now named file causes first before after asked_first asked_before asked_after Boots (NotRead at) same kept were here judges good stops asks =
     let S : InputFile → Type 0 = λ at. Stopped holds named first after asked_first asked_after Boots (NotRead at) in
-    subst S (sym stops.0) (here, Rose-after first before after kept stops.1, asked_to named file asked_first asked_before asked_after here were asks)
+    subst S (sym stops.0) (record { is_named = here; rose = Rose-after first before after kept stops.1; asked = asked_to named file asked_first asked_before asked_after here were asks; before = good })
 stopped_at holds holds_now named file causes first before after asked_first asked_before asked_after Boots Module same kept were here judges good stops asks = absurd stops
 stopped_at holds holds_now named file causes first before after asked_first asked_before asked_after Boots NoMemory same kept were here judges good stops (inl is) =
     let front = front_to named file in

@@ -1,4 +1,4 @@
-use Rattle.std.specs.Prelude.{ℕ, List, [], ◌∷◌, ◌++◌, take, Option, None, Some, All, ◌≡◌, ◌⊎◌, Ok}
+use Rattle.std.specs.Prelude.{ℕ, List, [], ◌∷◌, ◌++◌, take, Option, None, Some, All, ◌≡◌, ◌≤◌, ◌⊎◌, Ok}
 use Rattle.std.specs.Option.{option_to_list}
 use Rattle.guest_base.specs.Counts.{Rose}
 use Rattle.guest_base.specs.declared.memory.Page.{Page}
@@ -12,7 +12,7 @@ use Rattle.guest_boot.specs.Stopped.{BootStopped}
 use Rattle.guest_run.specs.declared.stop.Cause.{Cause}
 use Rattle.guest_run.specs.declared.stop.InputFile.{InputFile}
 use Rattle.guest_run.specs.declared.stop.InputFile.TheVariants.{Order, Map, Table, Script}
-use Rattle.guest_run.specs.Causes.{IsGood, IsToldGood, IsRefused, IsToldRefused, IsMapOf}
+use Rattle.guest_run.specs.Causes.{IsGood, IsToldGood, IsRefused, IsToldRefused, IsMapOf, OfEachBefore}
 use Rattle.guest_run.specs.Stops.{name_of, IsNamed, refused_line, not_read_line, boot_line, words_line}
 use Rattle.guest_words.specs.Words.{Named, named_by}
 
@@ -29,6 +29,13 @@ names_to named Script = named.order ∷ named.map ∷ (option_to_list named.tabl
 abbrev pub names_of : Option Named → List (List ℕ)
 names_of None = []
 names_of (Some named) = names_to named Script
+
+-- the place of a file in the order in which they are read
+abbrev pub place_of : InputFile → ℕ
+place_of Order = 0
+place_of Map = 1
+place_of Table = 2
+place_of Script = 3
 
 -- the first of these names were asked for, and no others
 abbrev pub AsksFront : List (List ℕ) → List (List ℕ) → List (List ℕ) → Type 0
@@ -96,10 +103,26 @@ OfWords words P = (named : Named) × (named_by words ≡ Some named) × P named
 abbrev pub SaysRefused : (List ℕ → Option (List ℕ)) → (List ℕ → Type 0) → Named → Type 0
 SaysRefused holds Written named = (file : InputFile) × (cause : Cause) × IsRefused holds named file cause × Written (refused_line (name_of named file) cause)
 
--- The line says that a file couldn't be read. It was asked for last, and the count of the files' faults rose.
-abbrev pub SaysNotRead : ℕ → ℕ → List (List ℕ) → List (List ℕ) → (List ℕ → Type 0) → Named → Type 0
-SaysNotRead faults_before faults_after asked_before asked_after Written named =
-    (file : InputFile) × IsNamed named file × Rose faults_before faults_after × (asked_after ≡ asked_before ++ names_to named file) × Written (not_read_line (name_of named file))
+-- The file, which is named, couldn't be read: it was asked for last, and the count of the files' faults rose. Those before it are good,
+-- wherever it is told what they hold.
+pub record IsNotRead (holds : List ℕ → Option (List ℕ)) (named : Named) (faults_before faults_after : ℕ) (asked_before asked_after : List (List ℕ)) (file : InputFile) : Type 0 where
+  pub is_named : IsNamed named file
+  pub rose : Rose faults_before faults_after
+  pub asked : asked_after ≡ asked_before ++ names_to named file
+  pub before : OfEachBefore (IsGood holds named) file
+
+-- The line says that a file couldn't be read, and so it is.
+abbrev pub SaysNotRead : (List ℕ → Option (List ℕ)) → ℕ → ℕ → List (List ℕ) → List (List ℕ) → (List ℕ → Type 0) → Named → Type 0
+SaysNotRead holds faults_before faults_after asked_before asked_after Written named =
+    (file : InputFile) × IsNotRead holds named faults_before faults_after asked_before asked_after file
+    × Written (not_read_line (name_of named file))
+
+-- the same of a file that isn't read after this one
+abbrev pub SaysNotReadUpTo : InputFile → (List ℕ → Option (List ℕ)) → ℕ → ℕ → List (List ℕ) → List (List ℕ) → (List ℕ → Type 0) → Named → Type 0
+SaysNotReadUpTo last holds faults_before faults_after asked_before asked_after Written named =
+    (file : InputFile) × (place_of file ≤ place_of last)
+    × IsNotRead holds named faults_before faults_after asked_before asked_after file
+    × Written (not_read_line (name_of named file))
 
 -- The line says that boot stopped, and so it did.
 abbrev pub SaysBootStopped : {P : Type 0} → (P → List ModuleCall) → (P → ℕ) → List P → List P → (List ℕ → Option (List ℕ)) → (List ℕ → Type 0) → Named → Type 0
@@ -109,15 +132,20 @@ SaysBootStopped made faults before after holds Written named = BootStops made fa
 abbrev pub SaysWords : List (List ℕ) → (List ℕ → Type 0) → Type 0
 SaysWords words Written = (named_by words ≡ None) × Written words_line
 
--- Where it is told that a file is the first that is refused, its line is put; or the status is 5 or 6.
-abbrev pub RefusesFirstOf : (List ℕ → Option (List ℕ)) → Named → (List ℕ → Type 0) → ℕ → Type 0
-RefusesFirstOf holds named Written status =
+-- Where it is told that a file is the first that is refused, the status is 3 with its line, or 4 where this file or one before it
+-- couldn't be read; or it is 5 or 6.
+abbrev pub RefusesFirstOf : (List ℕ → Option (List ℕ)) → Named → ℕ → ℕ → List (List ℕ) → List (List ℕ) → (List ℕ → Type 0) → ℕ → Type 0
+RefusesFirstOf holds named faults_before faults_after asked_before asked_after Written status =
     (file : InputFile) (cause : Cause) → IsToldRefused holds named file cause
-    → ((status ≡ 3) × Written (refused_line (name_of named file) cause)) ⊎ (status ≡ 5) ⊎ (status ≡ 6)
+    → ((status ≡ 3) × Written (refused_line (name_of named file) cause))
+    ⊎ ((status ≡ 4) × SaysNotReadUpTo file holds faults_before faults_after asked_before asked_after Written named)
+    ⊎ (status ≡ 5) ⊎ (status ≡ 6)
 
 -- the same of the files that the words name
-abbrev pub RefusesFirst : (List ℕ → Option (List ℕ)) → List (List ℕ) → (List ℕ → Type 0) → ℕ → Type 0
-RefusesFirst holds words Written status = (named : Named) → named_by words ≡ Some named → RefusesFirstOf holds named Written status
+abbrev pub RefusesFirst : (List ℕ → Option (List ℕ)) → List (List ℕ) → ℕ → ℕ → List (List ℕ) → List (List ℕ) → (List ℕ → Type 0) → ℕ → Type 0
+RefusesFirst holds words faults_before faults_after asked_before asked_after Written status =
+    (named : Named) → named_by words ≡ Some named
+    → RefusesFirstOf holds named faults_before faults_after asked_before asked_after Written status
 
 -- it is told that all files are good
 abbrev pub AreToldGood : (List ℕ → Option (List ℕ)) → Named → Type 0

@@ -13,8 +13,8 @@ use Rattle.event_core.specs.declared.module_call.ModuleCall.{ModuleCall}
 use Rattle.event_core.specs.declared.boot.Descriptor.{Descriptor}
 use Rattle.event_core.specs.Table.{Bits}
 use Rattle.efi_map.specs.declared.map.GuestMap.{GuestMap}
-use Rattle.guest_run.specs.Endings.{names_to, AsksFront, BootFailed, Put, PutFront}
-use Rattle.guest_run.specs.Stops.{name_of, IsNamed, stop_line}
+use Rattle.guest_run.specs.Endings.{names_to, AsksFront, BootFailed, IsNotRead, Put, PutFront}
+use Rattle.guest_run.specs.Stops.{name_of, stop_line}
 
 -- What a stop says, at each layer.
 
@@ -67,7 +67,7 @@ abbrev pub Stopped : (List ℕ → Option (List ℕ)) → Named → ℕ → ℕ 
 Stopped holds named faults_before faults_after asked_before asked_after Boots (Refused file cause) =
     IsRefused holds named file cause × (asked_after ≡ asked_before ++ names_to named file)
 Stopped holds named faults_before faults_after asked_before asked_after Boots (NotRead file) =
-    IsNamed named file × Rose faults_before faults_after × (asked_after ≡ asked_before ++ names_to named file)
+    IsNotRead holds named faults_before faults_after asked_before asked_after file
 Stopped holds named faults_before faults_after asked_before asked_after Boots Module =
     Boots × (asked_after ≡ asked_before ++ names_to named Script)
 Stopped holds named faults_before faults_after asked_before asked_after Boots NoMemory =

@@ -143,10 +143,21 @@ fn run_named<F: Files, K: Sink, P: Port>(
     ensures not_words { result.status ≢ 2 }
     ensures no_run { IsSome result.run → (result.status ≡ 0) ⊎ (result.status ≡ 5) ⊎ (result.status ≡ 6) }
     ensures refused { result.status ≡ 3 → SaysRefused (F.holds files.old) (Put (K.written out.old) (K.written out.new)) (seen names.now) }
-    ensures first_refused { ¬ Rose (F.faults files.old) (F.faults files.new) → RefusesFirstOf (F.holds files.old) (seen names.now) (Put (K.written out.old) (K.written out.new)) result.status }
-    ensures not_read { result.status ≡ 4 → SaysNotRead (F.faults files.old) (F.faults files.new) (F.asked files.old) (F.asked files.new) (Put (K.written out.old) (K.written out.new)) (seen names.now) }
+    ensures first_refused { RefusesFirstOf (F.holds files.old) (seen names.now)
+        (F.faults files.old) (F.faults files.new) (F.asked files.old) (F.asked files.new)
+        (Put (K.written out.old) (K.written out.new)) result.status }
+    ensures not_read { result.status ≡ 4 → SaysNotRead (F.holds files.old)
+        (F.faults files.old) (F.faults files.new) (F.asked files.old) (F.asked files.new)
+        (Put (K.written out.old) (K.written out.new)) (seen names.now) }
     ensures failed { result.status ≡ 5 → Rose (K.faults out.old) (K.faults out.new) }
-    ensures cut_line { result.status ≡ 5 → result.run ≡ None → SaysRefused (F.holds files.old) (PutFront (K.written out.old) (K.written out.new)) (seen names.now) ⊎ SaysNotRead (F.faults files.old) (F.faults files.new) (F.asked files.old) (F.asked files.new) (PutFront (K.written out.old) (K.written out.new)) (seen names.now) ⊎ SaysBootStopped P.made P.faults ports.old.items ports.new.items (F.holds files.old) (PutFront (K.written out.old) (K.written out.new)) (seen names.now) }
+    ensures cut_line { result.status ≡ 5 → result.run ≡ None →
+        SaysRefused (F.holds files.old)
+        (PutFront (K.written out.old) (K.written out.new)) (seen names.now)
+        ⊎ SaysNotRead (F.holds files.old)
+        (F.faults files.old) (F.faults files.new) (F.asked files.old) (F.asked files.new)
+        (PutFront (K.written out.old) (K.written out.new)) (seen names.now)
+        ⊎ SaysBootStopped P.made P.faults ports.old.items ports.new.items (F.holds files.old)
+        (PutFront (K.written out.old) (K.written out.new)) (seen names.now) }
     ensures cut_text { result.status ≡ 5 → IfSome result.run (λ r. CutAfter r (K.written out.old) (K.written out.new)) }
     ensures boot_stopped { result.status ≡ 7 → SaysBootStopped P.made P.faults ports.old.items ports.new.items (F.holds files.old) (Put (K.written out.old) (K.written out.new)) (seen names.now) }
     ensures complete { AreToldGood (F.holds files.old) (seen names.now) → ¬ Rose (F.faults files.old) (F.faults files.new) → ¬ Rose (K.faults out.old) (K.faults out.new) → (result.status ≡ 0) ⊎ (result.status ≡ 6) ⊎ (result.status ≡ 7) }
@@ -198,10 +209,23 @@ pub fn plain<F: Files, K: Sink, P: Port>(
     ensures words_refused { named_by (bytes_of_words words.now) ≡ None → (result.status ≡ 2) ⊎ (result.status ≡ 5) ⊎ (result.status ≡ 6) }
     ensures words_line { result.status ≡ 2 → K.written out.new ≡ appended (K.written out.old) words_line }
     ensures refused { result.status ≡ 3 → OfWords (bytes_of_words words.now) (λ named. SaysRefused (F.holds files.old) (Put (K.written out.old) (K.written out.new)) named) }
-    ensures first_refused { ¬ Rose (F.faults files.old) (F.faults files.new) → RefusesFirst (F.holds files.old) (bytes_of_words words.now) (Put (K.written out.old) (K.written out.new)) result.status }
-    ensures not_read { result.status ≡ 4 → OfWords (bytes_of_words words.now) (λ named. SaysNotRead (F.faults files.old) (F.faults files.new) (F.asked files.old) (F.asked files.new) (Put (K.written out.old) (K.written out.new)) named) }
+    ensures first_refused { RefusesFirst (F.holds files.old) (bytes_of_words words.now)
+        (F.faults files.old) (F.faults files.new) (F.asked files.old) (F.asked files.new)
+        (Put (K.written out.old) (K.written out.new)) result.status }
+    ensures not_read { result.status ≡ 4 → OfWords (bytes_of_words words.now) (λ named.
+        SaysNotRead (F.holds files.old)
+        (F.faults files.old) (F.faults files.new) (F.asked files.old) (F.asked files.new)
+        (Put (K.written out.old) (K.written out.new)) named) }
     ensures failed { result.status ≡ 5 → Rose (K.faults out.old) (K.faults out.new) }
-    ensures cut_line { result.status ≡ 5 → result.run ≡ None → SaysWords (bytes_of_words words.now) (PutFront (K.written out.old) (K.written out.new)) ⊎ OfWords (bytes_of_words words.now) (λ named. SaysRefused (F.holds files.old) (PutFront (K.written out.old) (K.written out.new)) named ⊎ SaysNotRead (F.faults files.old) (F.faults files.new) (F.asked files.old) (F.asked files.new) (PutFront (K.written out.old) (K.written out.new)) named ⊎ SaysBootStopped P.made P.faults ports.old.items ports.new.items (F.holds files.old) (PutFront (K.written out.old) (K.written out.new)) named) }
+    ensures cut_line { result.status ≡ 5 → result.run ≡ None →
+        SaysWords (bytes_of_words words.now) (PutFront (K.written out.old) (K.written out.new))
+        ⊎ OfWords (bytes_of_words words.now) (λ named.
+        SaysRefused (F.holds files.old) (PutFront (K.written out.old) (K.written out.new)) named
+        ⊎ SaysNotRead (F.holds files.old)
+        (F.faults files.old) (F.faults files.new) (F.asked files.old) (F.asked files.new)
+        (PutFront (K.written out.old) (K.written out.new)) named
+        ⊎ SaysBootStopped P.made P.faults ports.old.items ports.new.items (F.holds files.old)
+        (PutFront (K.written out.old) (K.written out.new)) named) }
     ensures cut_text { result.status ≡ 5 → IfSome result.run (λ r. CutAfter r (K.written out.old) (K.written out.new)) }
     ensures boot_stopped { result.status ≡ 7 → OfWords (bytes_of_words words.now) (λ named. SaysBootStopped P.made P.faults ports.old.items ports.new.items (F.holds files.old) (Put (K.written out.old) (K.written out.new)) named) }
     ensures complete { OfWords (bytes_of_words words.now) (AreToldGood (F.holds files.old)) → ¬ Rose (F.faults files.old) (F.faults files.new) → ¬ Rose (K.faults out.old) (K.faults out.new) → (result.status ≡ 0) ⊎ (result.status ≡ 6) ⊎ (result.status ≡ 7) }
@@ -248,10 +272,23 @@ pub fn top<F: Files, K: Sink, P: Port>(
     ensures words_refused { named_by (bytes_of_words words.now) ≡ None → (result.status ≡ 2) ⊎ (result.status ≡ 5) ⊎ (result.status ≡ 6) }
     ensures words_line { result.status ≡ 2 → K.written out.new ≡ appended (K.written out.old) words_line }
     ensures refused { result.status ≡ 3 → OfWords (bytes_of_words words.now) (λ named. SaysRefused (F.holds files.old) (Put (K.written out.old) (K.written out.new)) named) }
-    ensures first_refused { ¬ Rose (F.faults files.old) (F.faults files.new) → RefusesFirst (F.holds files.old) (bytes_of_words words.now) (Put (K.written out.old) (K.written out.new)) result.status }
-    ensures not_read { result.status ≡ 4 → OfWords (bytes_of_words words.now) (λ named. SaysNotRead (F.faults files.old) (F.faults files.new) (F.asked files.old) (F.asked files.new) (Put (K.written out.old) (K.written out.new)) named) }
+    ensures first_refused { RefusesFirst (F.holds files.old) (bytes_of_words words.now)
+        (F.faults files.old) (F.faults files.new) (F.asked files.old) (F.asked files.new)
+        (Put (K.written out.old) (K.written out.new)) result.status }
+    ensures not_read { result.status ≡ 4 → OfWords (bytes_of_words words.now) (λ named.
+        SaysNotRead (F.holds files.old)
+        (F.faults files.old) (F.faults files.new) (F.asked files.old) (F.asked files.new)
+        (Put (K.written out.old) (K.written out.new)) named) }
     ensures failed { result.status ≡ 5 → Rose (K.faults out.old) (K.faults out.new) }
-    ensures cut_line { result.status ≡ 5 → result.run ≡ None → SaysWords (bytes_of_words words.now) (PutFront (K.written out.old) (K.written out.new)) ⊎ OfWords (bytes_of_words words.now) (λ named. SaysRefused (F.holds files.old) (PutFront (K.written out.old) (K.written out.new)) named ⊎ SaysNotRead (F.faults files.old) (F.faults files.new) (F.asked files.old) (F.asked files.new) (PutFront (K.written out.old) (K.written out.new)) named ⊎ SaysBootStopped P.made P.faults ports.old.items ports.new.items (F.holds files.old) (PutFront (K.written out.old) (K.written out.new)) named) }
+    ensures cut_line { result.status ≡ 5 → result.run ≡ None →
+        SaysWords (bytes_of_words words.now) (PutFront (K.written out.old) (K.written out.new))
+        ⊎ OfWords (bytes_of_words words.now) (λ named.
+        SaysRefused (F.holds files.old) (PutFront (K.written out.old) (K.written out.new)) named
+        ⊎ SaysNotRead (F.holds files.old)
+        (F.faults files.old) (F.faults files.new) (F.asked files.old) (F.asked files.new)
+        (PutFront (K.written out.old) (K.written out.new)) named
+        ⊎ SaysBootStopped P.made P.faults ports.old.items ports.new.items (F.holds files.old)
+        (PutFront (K.written out.old) (K.written out.new)) named) }
     ensures cut_text { result.status ≡ 5 → IfSome result.run (λ r. CutAfter r (K.written out.old) (K.written out.new)) }
     ensures boot_stopped { result.status ≡ 7 → OfWords (bytes_of_words words.now) (λ named. SaysBootStopped P.made P.faults ports.old.items ports.new.items (F.holds files.old) (Put (K.written out.old) (K.written out.new)) named) }
     ensures complete { OfWords (bytes_of_words words.now) (AreToldGood (F.holds files.old)) → ¬ Rose (F.faults files.old) (F.faults files.new) → ¬ Rose (K.faults out.old) (K.faults out.new) → (result.status ≡ 0) ⊎ (result.status ≡ 6) ⊎ (result.status ≡ 7) }

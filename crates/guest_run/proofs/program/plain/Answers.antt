@@ -11,8 +11,8 @@ returns-in-Some-clause-complete g c told kept sink =
     c.run_named.ensures.complete (told_of_words (g.F.Files.holds c.args.files.now) (named_by (bytes_of_words c.args.words.now)) (seen c.in-Some.names) (sym c.in-Some.ensures.named) told) kept sink
 
 pub returns-in-Some-clause-first_refused : goal.returns-in-Some-clause-first_refused
-returns-in-Some-clause-first_refused g c kept named is =
-    first_of_words (g.F.Files.holds c.args.files.now) (named_by (bytes_of_words c.args.words.now)) (seen c.in-Some.names) named (Put (g.K.Sink.written c.args.out.now) (g.K.Sink.written c.run_named.new.out)) c.run_named.result.status (sym c.in-Some.ensures.named) (c.run_named.ensures.first_refused kept) is
+returns-in-Some-clause-first_refused g c named is =
+    first_of_words (g.F.Files.holds c.args.files.now) (named_by (bytes_of_words c.args.words.now)) (seen c.in-Some.names) named (g.F.Files.faults c.args.files.now) (g.F.Files.faults c.run_named.new.files) (g.F.Files.asked c.args.files.now) (g.F.Files.asked c.run_named.new.files) (Put (g.K.Sink.written c.args.out.now) (g.K.Sink.written c.run_named.new.out)) c.run_named.result.status (sym c.in-Some.ensures.named) c.run_named.ensures.first_refused is
 
 pub returns-in-Some-clause-asked : goal.returns-in-Some-clause-asked
 returns-in-Some-clause-asked g c =

@@ -7,7 +7,7 @@ pub returns-in-Ok-clause-asked : goal.returns-in-Ok-clause-asked
 returns-in-Ok-clause-asked g c = asks_all (seen c.args.names.now) (g.F.Files.asked c.args.files.now) (g.F.Files.asked c.run.new.files) c.in-Ok.ensures.asked
 
 pub returns-in-Err-clause-first_refused : goal.returns-in-Err-clause-first_refused
-returns-in-Err-clause-first_refused g c kept = first_refused_of g.P.Port.made g.P.Port.faults c.args.ports.now.items c.run.new.ports.items (g.F.Files.holds c.args.files.now) (seen c.args.names.now) (g.F.Files.faults c.args.files.now) (g.F.Files.faults c.run.new.files) (g.F.Files.asked c.args.files.now) (g.F.Files.asked c.run.new.files) (g.K.Sink.written c.args.out.now) (g.K.Sink.written c.end_by.new.out) (g.K.Sink.faults c.args.out.now) (g.K.Sink.faults c.end_by.new.out) c.in-Err.stop c.end_by.result.status c.in-Err.ensures.stop c.end_by.ensures.ends kept
+returns-in-Err-clause-first_refused g c = first_refused_of g.P.Port.made g.P.Port.faults c.args.ports.now.items c.run.new.ports.items (g.F.Files.holds c.args.files.now) (seen c.args.names.now) (g.F.Files.faults c.args.files.now) (g.F.Files.faults c.run.new.files) (g.F.Files.asked c.args.files.now) (g.F.Files.asked c.run.new.files) (g.K.Sink.written c.args.out.now) (g.K.Sink.written c.end_by.new.out) (g.K.Sink.faults c.args.out.now) (g.K.Sink.faults c.end_by.new.out) c.in-Err.stop c.end_by.result.status c.in-Err.ensures.stop c.end_by.ensures.ends
 
 pub returns-in-Err-clause-cut_line : goal.returns-in-Err-clause-cut_line
 returns-in-Err-clause-cut_line g c is none = cut_line_of g.P.Port.made g.P.Port.faults c.args.ports.now.items c.run.new.ports.items (g.F.Files.holds c.args.files.now) (seen c.args.names.now) (g.F.Files.faults c.args.files.now) (g.F.Files.faults c.run.new.files) (g.F.Files.asked c.args.files.now) (g.F.Files.asked c.run.new.files) (g.K.Sink.written c.args.out.now) (g.K.Sink.written c.end_by.new.out) (g.K.Sink.faults c.args.out.now) (g.K.Sink.faults c.end_by.new.out) c.in-Err.stop c.end_by.result.status c.in-Err.ensures.stop c.end_by.ensures.ends is
@@ -19,7 +19,7 @@ pub returns-in-Err-clause-asked : goal.returns-in-Err-clause-asked
 returns-in-Err-clause-asked g c = asked_of g.P.Port.made g.P.Port.faults c.args.ports.now.items c.run.new.ports.items (g.F.Files.holds c.args.files.now) (seen c.args.names.now) (g.F.Files.faults c.args.files.now) (g.F.Files.faults c.run.new.files) (g.F.Files.asked c.args.files.now) (g.F.Files.asked c.run.new.files) (g.K.Sink.written c.args.out.now) (g.K.Sink.written c.end_by.new.out) (g.K.Sink.faults c.args.out.now) (g.K.Sink.faults c.end_by.new.out) c.in-Err.stop c.end_by.result.status c.in-Err.ensures.stop
 
 pub returns-in-Ok-clause-first_refused : goal.returns-in-Ok-clause-first_refused
-returns-in-Ok-clause-first_refused g c kept file cause told = good_told (g.F.Files.holds c.args.files.now) (seen c.args.names.now) file cause (c.in-Ok.ensures.good file) told
+returns-in-Ok-clause-first_refused g c file cause told = good_told (g.F.Files.holds c.args.files.now) (seen c.args.names.now) file cause (c.in-Ok.ensures.good file) told
 
 pub returns-in-Err-clause-refused : goal.returns-in-Err-clause-refused
 returns-in-Err-clause-refused g c is = refused_of g.P.Port.made g.P.Port.faults c.args.ports.now.items c.run.new.ports.items (g.F.Files.holds c.args.files.now) (seen c.args.names.now) (g.F.Files.faults c.args.files.now) (g.F.Files.faults c.run.new.files) (g.F.Files.asked c.args.files.now) (g.F.Files.asked c.run.new.files) (g.K.Sink.written c.args.out.now) (g.K.Sink.written c.end_by.new.out) (g.K.Sink.faults c.args.out.now) (g.K.Sink.faults c.end_by.new.out) c.in-Err.stop c.end_by.result.status c.in-Err.ensures.stop c.end_by.ensures.ends is
