@@ -8,9 +8,9 @@ use Rattle.guest_run.specs.declared.stop.InputFile.TheVariants.{Order, Map, Tabl
 use Rattle.guest_run.specs.declared.stop.Stop.{Stop}
 use Rattle.guest_run.specs.declared.stop.Stop.TheVariants.{Refused, NotRead, Module, NoMemory}
 use Rattle.guest_run.specs.Causes.{cause_by, HasCause, IsToldCause, IsGood, IsToldGood, IsRefused, IsToldRefused, OfEachBefore}
-use Rattle.guest_run.specs.Endings.{names_of, names_to, place_of, AreGood, AreToldGood, AsksFront, BootStops, IsGiven, IsNotRead, Put, PutFront, RefusesFirstOf, SaysRefused, SaysNotRead, SaysNotReadUpTo, SaysBootStopped}
+use Rattle.guest_run.specs.Endings.{names_of, names_to, place_of, AreGood, AreToldGood, AsksFront, BootStops, IsGiven, IsNotRead, Put, PutFront, RefusesFirstOf, SaysRefused, SaysNotRead, SaysNotReadUpTo, SaysBootStopped, UnaskedAt}
 use Rattle.guest_run.specs.Ends.{IsKnown}
-use Rattle.guest_run.specs.Stopping.{BootFails, EndsWith, StopEnds, Stopped}
+use Rattle.guest_run.specs.Stopping.{BootFails, EndsWith, StopEnds, Stopped, StopUnasked}
 use Rattle.guest_run.specs.Stops.{name_of, refused_line, boot_line, stop_line, status_of}
 use Rattle.guest_words.specs.Words.{Named}
 use Rattle.guest_run.proofs.InputLemmas.{front_to, asks_all}
@@ -252,3 +252,46 @@ first_of_words holds words named other faults_before faults_after asked_before a
 
 pub asked_of_words : (words : Option Named) (named : Named) (before after : List (List ℕ)) → words ≡ Some named → AsksFront (names_to named Script) before after → AsksFront (names_of words) before after
 asked_of_words words named before after is asked = subst (λ w. AsksFront (names_of w) before after) (sym is) asked
+
+-- ---- the ports
+
+-- a stop of reading is one before the ports
+pub stop_unasked : {P : Type 0} (ports : List P) (stop : Stop) → StopUnasked ports ports stop
+stop_unasked ports (Refused file cause) = refl
+stop_unasked ports (NotRead file) = refl
+stop_unasked ports Module = tt
+stop_unasked ports NoMemory = tt
+
+-- a stop of boot isn't one at a file
+boot_unasked : {P : Type 0} (made : P → List ModuleCall) (faults : P → ℕ) (before after : List P) (map : GuestMap) (table : Option Bits) (areas : ℕ) (stop : Stop) → BootFails made faults before after map table areas stop → StopUnasked before after stop
+boot_unasked made faults before after map table areas (Refused file cause) fails = absurd fails
+boot_unasked made faults before after map table areas (NotRead file) fails = absurd fails
+boot_unasked made faults before after map table areas Module fails = tt
+boot_unasked made faults before after map table areas NoMemory fails = tt
+
+pub boot_unasked_of : {P R : Type 0} (made : P → List ModuleCall) (faults : P → ℕ) (before after : List P) (map : GuestMap) (table : Option Bits) (areas : ℕ) (result : Result R Stop) → IfErr result (λ stop. BootFails made faults before after map table areas stop) → IfErr result (λ stop. StopUnasked before after stop)
+boot_unasked_of made faults before after map table areas (Ok r) fails = tt
+boot_unasked_of made faults before after map table areas (Err stop) fails = boot_unasked made faults before after map table areas stop fails
+
+low : (status : ℕ) → (status ≡ 2) ⊎ (status ≡ 3) ⊎ (status ≡ 4) → (status < 5) × (0 < status)
+low status (inl is) = (omega (arith, is), omega (arith, is))
+low status (inr (inl is)) = (omega (arith, is), omega (arith, is))
+low status (inr (inr is)) = (omega (arith, is), omega (arith, is))
+
+-- a run ends with other statuses
+pub ran_unasked : {P : Type 0} (before after : List P) (status : ℕ) → (status ≡ 0) ⊎ (status ≡ 5) ⊎ (status ≡ 6) → UnaskedAt status before after
+ran_unasked before after status (inl is) at = (let l = low status at in absurd (omega (arith, l.1, is)))
+ran_unasked before after status (inr (inl is)) at = (let l = low status at in absurd (omega (arith, l.0, is)))
+ran_unasked before after status (inr (inr is)) at = (let l = low status at in absurd (omega (arith, l.0, is)))
+
+high : {A : Type 0} (before after : Option (List ℕ)) (sink_before sink_after : ℕ) (line : List ℕ) (status ended : ℕ) → EndsWith before after sink_before sink_after line status ended → 4 < status → ended < 5 → A
+high before after sink_before sink_after line status ended (inl h) more less = absurd (omega (arith, h.0, more, less))
+high before after sink_before sink_after line status ended (inr (inl h)) more less = absurd (omega (arith, h.0, less))
+high before after sink_before sink_after line status ended (inr (inr h)) more less = absurd (omega (arith, h, less))
+
+-- so does a stop of boot
+pub stop_unasked_at : {P : Type 0} (ports_before ports_after : List P) (named : Named) (before after : Option (List ℕ)) (sink_before sink_after : ℕ) (stop : Stop) (ended : ℕ) → StopUnasked ports_before ports_after stop → StopEnds before after sink_before sink_after named stop ended → UnaskedAt ended ports_before ports_after
+stop_unasked_at ports_before ports_after named before after sink_before sink_after (Refused file cause) ended unasked ends at = unasked
+stop_unasked_at ports_before ports_after named before after sink_before sink_after (NotRead file) ended unasked ends at = unasked
+stop_unasked_at ports_before ports_after named before after sink_before sink_after Module ended unasked ends at = high before after sink_before sink_after boot_line 7 ended ends (omega arith) (low ended at).0
+stop_unasked_at ports_before ports_after named before after sink_before sink_after NoMemory ended unasked ends at = (let l = low ended at in absurd (omega (arith, l.0, ends)))

@@ -1,4 +1,4 @@
-use Rattle.std.proofs.Common.{◌≡◌, ℕ, suc, zero, ◌<◌, false, Option, None, Some, List, [], ◌∷◌, ◌++◌, refl, sym, ◌∙◌, ap, subst, inl, inr, arith, ◌==◌, eqb-true, length, filter, get_or}
+use Rattle.std.proofs.Common.{◌≡◌, ℕ, suc, zero, ◌<◌, ◌≤◌, false, Option, None, Some, List, [], ◌∷◌, ◌++◌, refl, sym, ◌∙◌, ap, subst, inl, inr, arith, ◌==◌, eqb-true, length, filter, get_or}
 use Rattle.std.specs.Prelude.{slice_get, slice_set, All, Result, Ok, Err, IfOk}
 use Rattle.std.specs.List.{AllByRecursion}
 use Rattle.std.proofs.lemmas.Bool.{cases_Bool}
@@ -18,7 +18,7 @@ use Rattle.guest_base.specs.Counts.{Rose}
 use Rattle.guest_base.specs.declared.memory.Page.{Page}
 use Rattle.efi_map.specs.declared.map.GuestMap.{GuestMap}
 use Rattle.guest_boot.specs.Stopped.{BootStopped}
-use Rattle.guest_run.specs.Endings.{BootFailed, OthersUnmade}
+use Rattle.guest_run.specs.Endings.{BootFailed, OthersUnmade, PortsKept, first_faults, other_ports}
 use Rattle.guest_run.specs.Recordings.{History}
 use Rattle.guest_run.specs.Replies.{port_calls, PortsMade}
 
@@ -85,4 +85,27 @@ boot_failed made faults (p ∷ old) port_old port map table areas page some unma
   stopped = stopped;
   rose = subst (λ q. Rose (faults q) (faults port)) is failed;
   others = All-tail (λ p. made p ≡ []) p old unmade;
+}
+
+-- ---- the ports that come back
+
+-- of a call on the first port
+pub kept_first : {P : Type 0} (faults : P → ℕ) (old : List P) (port_old port : P) → 0 < length old → port_old ≡ get_or old 0 port_old → faults port_old ≤ faults port → PortsKept faults old (slice_set old 0 port)
+kept_first faults [] port_old port some is kept = absurd (omega (arith, some))
+kept_first faults (p ∷ old) port_old port some is kept = record {
+  count = refl;
+  first = subst (λ q. faults q ≤ faults port) is kept;
+  others = refl;
+}
+
+-- of no call
+pub kept_same : {P : Type 0} (faults : P → ℕ) (ports : List P) → PortsKept faults ports ports
+kept_same faults ports = record { count = refl; first = omega arith; others = refl }
+
+-- of one after another
+pub kept_then : {P : Type 0} (faults : P → ℕ) (before between after : List P) → PortsKept faults before between → PortsKept faults between after → PortsKept faults before after
+kept_then faults before between after a b = record {
+  count = b.count ∙ a.count;
+  first = omega (arith, a.first, b.first);
+  others = b.others ∙ a.others;
 }

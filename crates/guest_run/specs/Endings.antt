@@ -1,4 +1,4 @@
-use Rattle.std.specs.Prelude.{ℕ, List, [], ◌∷◌, ◌++◌, take, Option, None, Some, All, ◌≡◌, ◌≤◌, ◌⊎◌, Ok}
+use Rattle.std.specs.Prelude.{ℕ, List, [], ◌∷◌, ◌++◌, take, length, Option, None, Some, All, ◌≡◌, ◌≤◌, ◌⊎◌, Ok}
 use Rattle.std.specs.Option.{option_to_list}
 use Rattle.guest_base.specs.Counts.{Rose}
 use Rattle.guest_base.specs.declared.memory.Page.{Page}
@@ -49,6 +49,22 @@ first_made made (port ∷ ports) = made port
 abbrev pub first_faults : {P : Type 0} → (P → ℕ) → List P → ℕ
 first_faults faults [] = 0
 first_faults faults (port ∷ ports) = faults port
+
+-- all ports but the first
+abbrev pub other_ports : {P : Type 0} → List P → List P
+other_ports [] = []
+other_ports (port ∷ ports) = ports
+
+-- The ports that come back after one processor's run: as many, the first one's count of faults isn't lower, and the others are as they
+-- were.
+pub record PortsKept {P : Type 0} (faults : P → ℕ) (before after : List P) : Type 0 where
+  pub count : length after ≡ length before
+  pub first : first_faults faults before ≤ first_faults faults after
+  pub others : other_ports after ≡ other_ports before
+
+-- other words, a refused file and one that couldn't be read, which are the statuses 2, 3 and 4, leave all ports as they were
+abbrev pub UnaskedAt : {P : Type 0} → ℕ → List P → List P → Type 0
+UnaskedAt status before after = (status ≡ 2) ⊎ (status ≡ 3) ⊎ (status ≡ 4) → after ≡ before
 
 -- no port but the first has made a call
 abbrev pub OthersUnmade : {P : Type 0} → (P → List ModuleCall) → List P → Type 0

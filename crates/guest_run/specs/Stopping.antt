@@ -62,6 +62,13 @@ BootFails made faults before after map table areas (NotRead at) = ⊥
 BootFails made faults before after map table areas Module = BootFailed made faults before after map table areas
 BootFails made faults before after map table areas NoMemory = Unit {0}
 
+-- a stop at a file leaves all ports as they were
+abbrev pub StopUnasked : {P : Type 0} → List P → List P → Stop → Type 0
+StopUnasked before after (Refused file cause) = after ≡ before
+StopUnasked before after (NotRead file) = after ≡ before
+StopUnasked before after Module = Unit {0}
+StopUnasked before after NoMemory = Unit {0}
+
 -- the cause of a stop, and the names that were asked for up to it; Boots is the cause of a stop of boot
 abbrev pub Stopped : (List ℕ → Option (List ℕ)) → Named → ℕ → ℕ → List (List ℕ) → List (List ℕ) → Type 0 → Stop → Type 0
 Stopped holds named faults_before faults_after asked_before asked_after Boots (Refused file cause) =

@@ -11,7 +11,7 @@ ghost use Rattle.event_core.specs.Runs.{AreMaximalRuns};
 ghost use Rattle.event_core.specs.Untouched.{Untouched};
 ghost use Rattle.guest_io.specs.Writing.{appended};
 ghost use Rattle.guest_run.specs.Bounds.{EndInMemory};
-ghost use Rattle.guest_run.specs.Endings.{names_of, names_to, first_faults, AreToldGood, AsksFront, OfWords, Put, PutFront, RefusesFirst, RefusesFirstOf, SaysBootStopped, SaysNotRead, SaysRefused, SaysWords};
+ghost use Rattle.guest_run.specs.Endings.{names_of, names_to, first_faults, AreToldGood, AsksFront, OfWords, PortsKept, Put, PutFront, RefusesFirst, RefusesFirstOf, SaysBootStopped, SaysNotRead, SaysRefused, SaysWords, UnaskedAt};
 ghost use Rattle.guest_run.specs.Ends.{Done, IsKnown};
 ghost use Rattle.guest_run.specs.Recordings.{Booted, BootedBy, CutAfter, History, PrintedAfter};
 ghost use Rattle.guest_run.specs.Replies.{FaultsTold, PortsMade};
@@ -162,6 +162,8 @@ fn run_named<F: Files, K: Sink, P: Port>(
     ensures boot_stopped { result.status ≡ 7 → SaysBootStopped P.made P.faults ports.old.items ports.new.items (F.holds files.old) (Put (K.written out.old) (K.written out.new)) (seen names.now) }
     ensures complete { AreToldGood (F.holds files.old) (seen names.now) → ¬ Rose (F.faults files.old) (F.faults files.new) → ¬ Rose (K.faults out.old) (K.faults out.new) → (result.status ≡ 0) ⊎ (result.status ≡ 6) ⊎ (result.status ≡ 7) }
     ensures asked { AsksFront (names_to (seen names.now) InputFile.Script) (F.asked files.old) (F.asked files.new) }
+    ensures kept { PortsKept P.faults ports.old.items ports.new.items }
+    ensures unasked { UnaskedAt result.status ports.old.items ports.new.items }
 {
     match run(alloc, names, files, ports) {
         Ok((recorded, runs)) => end_with_run(alloc, out, recorded, &runs),
@@ -232,6 +234,8 @@ pub fn plain<F: Files, K: Sink, P: Port>(
 
     // Whatever the status.
     ensures asked { AsksFront (names_of (named_by (bytes_of_words words.now))) (F.asked files.old) (F.asked files.new) }
+    ensures kept { PortsKept P.faults ports.old.items ports.new.items }
+    ensures unasked { UnaskedAt result.status ports.old.items ports.new.items }
 {
     match read_words(words) {
         Some(names) => run_named(alloc, &names, files, out, ports),
@@ -295,6 +299,8 @@ pub fn top<F: Files, K: Sink, P: Port>(
 
     // Whatever the status.
     ensures asked { AsksFront (names_of (named_by (bytes_of_words words.now))) (F.asked files.old) (F.asked files.new) }
+    ensures kept { PortsKept P.faults ports.old.items ports.new.items }
+    ensures unasked { UnaskedAt result.status ports.old.items ports.new.items }
 {
     plain(alloc, words, files, out, ports)
 }

@@ -18,11 +18,11 @@ ghost use Rattle.event_core.specs.Untouched.{Untouched};
 ghost use Rattle.guest_boot.specs.Worlds.{WorldStands};
 ghost use Rattle.guest_words.specs.Views.{seen};
 ghost use Rattle.guest_run.specs.Bounds.{EndInMemory};
-ghost use Rattle.guest_run.specs.Endings.{names_to, first_made, first_faults, AreGood, OthersUnmade, BootStops};
+ghost use Rattle.guest_run.specs.Endings.{names_to, first_made, first_faults, AreGood, OthersUnmade, BootStops, PortsKept};
 ghost use Rattle.guest_run.specs.First.{IsFirstCommand};
 ghost use Rattle.guest_run.specs.Recordings.{BootedBy, History};
 ghost use Rattle.guest_run.specs.Replies.{PortsMade, FaultsTold};
-ghost use Rattle.guest_run.specs.Stopping.{BootFails, Stopped};
+ghost use Rattle.guest_run.specs.Stopping.{BootFails, Stopped, StopUnasked};
 
 use crate::input::{Input, read_input};
 use crate::one::turns;
@@ -54,7 +54,7 @@ fn boot_on_first<P: Port>(
     ensures stop { IfErr result (λ stop. BootFails P.made P.faults ports.old.items ports.new.items map.now table areas stop) }
     ensures faults { first_faults P.faults ports.old.items ≤ first_faults P.faults ports.new.items }
     ensures others { OthersUnmade P.made ports.new.items }
-    ensures kept { length ports.new.items ≡ length ports.old.items }
+    ensures kept { PortsKept P.faults ports.old.items ports.new.items }
 {
     match boot(alloc, map, table, areas, 1, &mut ports[0]) {
         Ok(world) => Ok(world),
@@ -89,6 +89,7 @@ fn turns_on_first<P: Port>(
     ensures told { IfOk result (λ r. FaultsTold (first_faults P.faults ports.old.items) r.0.entries (first_faults P.faults ports.new.items)) }
     ensures runs { IfOk result (λ r. AreMaximalRuns (page_state r.0.boot (calls_of r.0.boot r.0.entries)) r.1) }
     ensures within { IfOk result (λ r. EndInMemory r.1) }
+    ensures kept { PortsKept P.faults ports.old.items ports.new.items }
 {
     turns(alloc, world, script, &mut ports[0])
 }
@@ -119,6 +120,7 @@ fn run_input<P: Port>(
     ensures runs { IfOk result (λ r. AreMaximalRuns (page_state r.0.boot (calls_of r.0.boot r.0.entries)) r.1) }
     ensures within { IfOk result (λ r. EndInMemory r.1) }
     ensures stop { IfErr result (λ stop. BootFails P.made P.faults ports.old.items ports.new.items input.map input.table areas stop) }
+    ensures kept { PortsKept P.faults ports.old.items ports.new.items }
 {
     let Input { map, table, script } = input;
     let world = boot_on_first(alloc, &map, table, areas, ports)?;
@@ -149,6 +151,8 @@ pub(crate) fn run<F: Files, P: Port>(
     ensures within { IfOk result (λ r. EndInMemory r.1) }
     ensures asked { OnOk result (F.asked files.new ≡ F.asked files.old ++ names_to (seen names.now) InputFile.Script) }
     ensures stop { IfErr result (λ stop. Stopped (F.holds files.old) (seen names.now) (F.faults files.old) (F.faults files.new) (F.asked files.old) (F.asked files.new) (BootStops P.made P.faults ports.old.items ports.new.items (F.holds files.old) (seen names.now)) stop) }
+    ensures kept { PortsKept P.faults ports.old.items ports.new.items }
+    ensures unasked { IfErr result (λ stop. StopUnasked ports.old.items ports.new.items stop) }
 {
     let input = read_input(alloc, files, names)?;
     run_input(alloc, input, names.areas, ports)

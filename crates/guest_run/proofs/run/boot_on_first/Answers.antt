@@ -1,5 +1,5 @@
 use Rattle.std.proofs.Common.{ap, Err}
-use Rattle.guest_run.proofs.PortsLemmas.{others_kept, boot_failed}
+use Rattle.guest_run.proofs.PortsLemmas.{others_kept, boot_failed, kept_first}
 use Rattle.guest_run.proofs.run.boot_on_first.Goals as goal
 
 pub returns-in-Ok-clause-others : goal.returns-in-Ok-clause-others
@@ -13,3 +13,12 @@ returns-in-Err-Module-clause-others g c = others_kept g.P.Port.made c.args.ports
 
 pub returns-in-Err-NoMemory-clause-others : goal.returns-in-Err-NoMemory-clause-others
 returns-in-Err-NoMemory-clause-others g c = others_kept g.P.Port.made c.args.ports.now.items c.boot.new.port c.requires.unmade
+
+pub returns-in-Ok-clause-kept : goal.returns-in-Ok-clause-kept
+returns-in-Ok-clause-kept g c = kept_first g.P.Port.faults c.args.ports.now.items c.index_mut.result.now c.boot.new.port c.requires.some c.index_mut.ensures.value c.boot.ensures.faults
+
+pub returns-in-Err-Module-clause-kept : goal.returns-in-Err-Module-clause-kept
+returns-in-Err-Module-clause-kept g c = kept_first g.P.Port.faults c.args.ports.now.items c.index_mut.result.now c.boot.new.port c.requires.some c.index_mut.ensures.value c.boot.ensures.faults
+
+pub returns-in-Err-NoMemory-clause-kept : goal.returns-in-Err-NoMemory-clause-kept
+returns-in-Err-NoMemory-clause-kept g c = kept_first g.P.Port.faults c.args.ports.now.items c.index_mut.result.now c.boot.new.port c.requires.some c.index_mut.ensures.value c.boot.ensures.faults
