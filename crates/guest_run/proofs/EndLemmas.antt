@@ -8,7 +8,7 @@ use Rattle.guest_run.specs.declared.stop.InputFile.TheVariants.{Order, Map, Tabl
 use Rattle.guest_run.specs.declared.stop.Stop.{Stop}
 use Rattle.guest_run.specs.declared.stop.Stop.TheVariants.{Refused, NotRead, Module, NoMemory}
 use Rattle.guest_run.specs.Causes.{cause_by, HasCause, IsToldCause, IsGood, IsToldGood, IsRefused, IsToldRefused, OfEachBefore}
-use Rattle.guest_run.specs.Endings.{names_of, names_to, place_of, AreGood, AreToldGood, AsksFront, BootStops, IsGiven, IsNotRead, Put, PutFront, RefusesFirstOf, SaysRefused, SaysNotRead, SaysNotReadUpTo, SaysBootStopped, UnaskedAt}
+use Rattle.guest_run.specs.Endings.{names_of, names_to, place_of, AreGood, AreToldGood, AsksFront, BootStops, IsGiven, IsNotRead, Put, PutFront, PutFrontUnasked, RefusesFirstOf, SaysRefused, SaysNotRead, SaysNotReadUpTo, SaysBootStopped, UnaskedAt}
 use Rattle.guest_run.specs.Ends.{IsKnown}
 use Rattle.guest_run.specs.Stopping.{BootFails, EndsWith, StopEnds, Stopped, StopUnasked}
 use Rattle.guest_run.specs.Stops.{name_of, refused_line, boot_line, stop_line, status_of}
@@ -134,11 +134,11 @@ boot_stopped_of made faults ports_before ports_after holds named faults_before f
 boot_stopped_of made faults ports_before ports_after holds named faults_before faults_after asked_before asked_after before after sink_before sink_after NoMemory ended stopped ends is = absurd (omega (arith, ends, is))
 
 -- status 5
-pub cut_line_of : {P : Type 0} (made : P → List ModuleCall) (faults : P → ℕ) (ports_before ports_after : List P) (holds : List ℕ → Option (List ℕ)) (named : Named) (faults_before faults_after : ℕ) (asked_before asked_after : List (List ℕ)) (before after : Option (List ℕ)) (sink_before sink_after : ℕ) (stop : Stop) (ended : ℕ) → Stopped holds named faults_before faults_after asked_before asked_after (BootStops made faults ports_before ports_after holds named) stop → StopEnds before after sink_before sink_after named stop ended → ended ≡ 5 → SaysRefused holds (PutFront before after) named ⊎ SaysNotRead holds faults_before faults_after asked_before asked_after (PutFront before after) named ⊎ SaysBootStopped made faults ports_before ports_after holds (PutFront before after) named
-cut_line_of made faults ports_before ports_after holds named faults_before faults_after asked_before asked_after before after sink_before sink_after (Refused file cause) ended stopped ends is = inl (file, cause, stopped.0, (front_of before after sink_before sink_after (stop_line named (Refused file cause)) 3 ended ends is (λ e. omega (arith, e))).1)
-cut_line_of made faults ports_before ports_after holds named faults_before faults_after asked_before asked_after before after sink_before sink_after (NotRead file) ended stopped ends is = inr (inl (file, stopped, (front_of before after sink_before sink_after (stop_line named (NotRead file)) 4 ended ends is (λ e. omega (arith, e))).1))
-cut_line_of made faults ports_before ports_after holds named faults_before faults_after asked_before asked_after before after sink_before sink_after Module ended stopped ends is = inr (inr (stopped.0, (front_of before after sink_before sink_after boot_line 7 ended ends is (λ e. omega (arith, e))).1))
-cut_line_of made faults ports_before ports_after holds named faults_before faults_after asked_before asked_after before after sink_before sink_after NoMemory ended stopped ends is = absurd (omega (arith, ends, is))
+pub cut_line_of : {P : Type 0} (made : P → List ModuleCall) (faults : P → ℕ) (ports_before ports_after : List P) (holds : List ℕ → Option (List ℕ)) (named : Named) (faults_before faults_after : ℕ) (asked_before asked_after : List (List ℕ)) (before after : Option (List ℕ)) (sink_before sink_after : ℕ) (stop : Stop) (ended : ℕ) → Stopped holds named faults_before faults_after asked_before asked_after (BootStops made faults ports_before ports_after holds named) stop → StopEnds before after sink_before sink_after named stop ended → StopUnasked ports_before ports_after stop → ended ≡ 5 → SaysRefused holds (PutFrontUnasked ports_before ports_after before after) named ⊎ SaysNotRead holds faults_before faults_after asked_before asked_after (PutFrontUnasked ports_before ports_after before after) named ⊎ SaysBootStopped made faults ports_before ports_after holds (PutFront before after) named
+cut_line_of made faults ports_before ports_after holds named faults_before faults_after asked_before asked_after before after sink_before sink_after (Refused file cause) ended stopped ends unasked is = inl (file, cause, stopped.0, ((front_of before after sink_before sink_after (stop_line named (Refused file cause)) 3 ended ends is (λ e. omega (arith, e))).1, unasked))
+cut_line_of made faults ports_before ports_after holds named faults_before faults_after asked_before asked_after before after sink_before sink_after (NotRead file) ended stopped ends unasked is = inr (inl (file, stopped, ((front_of before after sink_before sink_after (stop_line named (NotRead file)) 4 ended ends is (λ e. omega (arith, e))).1, unasked)))
+cut_line_of made faults ports_before ports_after holds named faults_before faults_after asked_before asked_after before after sink_before sink_after Module ended stopped ends unasked is = inr (inr (stopped.0, (front_of before after sink_before sink_after boot_line 7 ended ends is (λ e. omega (arith, e))).1))
+cut_line_of made faults ports_before ports_after holds named faults_before faults_after asked_before asked_after before after sink_before sink_after NoMemory ended stopped ends unasked is = absurd (omega (arith, ends, is))
 
 -- status 5 comes where a fault was counted
 pub failed_of : {P : Type 0} (made : P → List ModuleCall) (faults : P → ℕ) (ports_before ports_after : List P) (holds : List ℕ → Option (List ℕ)) (named : Named) (faults_before faults_after : ℕ) (asked_before asked_after : List (List ℕ)) (before after : Option (List ℕ)) (sink_before sink_after : ℕ) (stop : Stop) (ended : ℕ) → Stopped holds named faults_before faults_after asked_before asked_after (BootStops made faults ports_before ports_after holds named) stop → StopEnds before after sink_before sink_after named stop ended → ended ≡ 5 → Rose sink_before sink_after

@@ -111,6 +111,10 @@ Put before after line = after ≡ appended before line
 abbrev pub PutFront : Option (List ℕ) → Option (List ℕ) → List ℕ → Type 0
 PutFront before after line = AppendsPrefix before line after
 
+-- the same of a line that is put before a port is asked: all ports are as they were
+abbrev pub PutFrontUnasked : {P : Type 0} → List P → List P → Option (List ℕ) → Option (List ℕ) → List ℕ → Type 0
+PutFrontUnasked ports_before ports_after before after line = PutFront before after line × (ports_after ≡ ports_before)
+
 -- the words name files of which this holds
 abbrev pub OfWords : List (List ℕ) → (Named → Type 0) → Type 0
 OfWords words P = (named : Named) × (named_by words ≡ Some named) × P named

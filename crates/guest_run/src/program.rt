@@ -11,7 +11,7 @@ ghost use Rattle.event_core.specs.Runs.{AreMaximalRuns};
 ghost use Rattle.event_core.specs.Untouched.{Untouched};
 ghost use Rattle.guest_io.specs.Writing.{appended};
 ghost use Rattle.guest_run.specs.Bounds.{EndInMemory};
-ghost use Rattle.guest_run.specs.Endings.{names_of, names_to, first_faults, AreToldGood, AsksFront, OfWords, PortsKept, Put, PutFront, RefusesFirst, RefusesFirstOf, SaysBootStopped, SaysNotRead, SaysRefused, SaysWords, UnaskedAt};
+ghost use Rattle.guest_run.specs.Endings.{names_of, names_to, first_faults, AreToldGood, AsksFront, OfWords, PortsKept, Put, PutFront, PutFrontUnasked, RefusesFirst, RefusesFirstOf, SaysBootStopped, SaysNotRead, SaysRefused, SaysWords, UnaskedAt};
 ghost use Rattle.guest_run.specs.Ends.{Done, IsKnown};
 ghost use Rattle.guest_run.specs.Recordings.{Booted, BootedBy, CutAfter, History, PrintedAfter};
 ghost use Rattle.guest_run.specs.Replies.{FaultsTold, PortsMade};
@@ -152,10 +152,10 @@ fn run_named<F: Files, K: Sink, P: Port>(
     ensures failed { result.status ≡ 5 → Rose (K.faults out.old) (K.faults out.new) }
     ensures cut_line { result.status ≡ 5 → result.run ≡ None →
         SaysRefused (F.holds files.old)
-        (PutFront (K.written out.old) (K.written out.new)) (seen names.now)
+        (PutFrontUnasked ports.old.items ports.new.items (K.written out.old) (K.written out.new)) (seen names.now)
         ⊎ SaysNotRead (F.holds files.old)
         (F.faults files.old) (F.faults files.new) (F.asked files.old) (F.asked files.new)
-        (PutFront (K.written out.old) (K.written out.new)) (seen names.now)
+        (PutFrontUnasked ports.old.items ports.new.items (K.written out.old) (K.written out.new)) (seen names.now)
         ⊎ SaysBootStopped P.made P.faults ports.old.items ports.new.items (F.holds files.old)
         (PutFront (K.written out.old) (K.written out.new)) (seen names.now) }
     ensures cut_text { result.status ≡ 5 → IfSome result.run (λ r. CutAfter r (K.written out.old) (K.written out.new)) }
@@ -220,12 +220,14 @@ pub fn plain<F: Files, K: Sink, P: Port>(
         (Put (K.written out.old) (K.written out.new)) named) }
     ensures failed { result.status ≡ 5 → Rose (K.faults out.old) (K.faults out.new) }
     ensures cut_line { result.status ≡ 5 → result.run ≡ None →
-        SaysWords (bytes_of_words words.now) (PutFront (K.written out.old) (K.written out.new))
+        SaysWords (bytes_of_words words.now)
+        (PutFrontUnasked ports.old.items ports.new.items (K.written out.old) (K.written out.new))
         ⊎ OfWords (bytes_of_words words.now) (λ named.
-        SaysRefused (F.holds files.old) (PutFront (K.written out.old) (K.written out.new)) named
+        SaysRefused (F.holds files.old)
+        (PutFrontUnasked ports.old.items ports.new.items (K.written out.old) (K.written out.new)) named
         ⊎ SaysNotRead (F.holds files.old)
         (F.faults files.old) (F.faults files.new) (F.asked files.old) (F.asked files.new)
-        (PutFront (K.written out.old) (K.written out.new)) named
+        (PutFrontUnasked ports.old.items ports.new.items (K.written out.old) (K.written out.new)) named
         ⊎ SaysBootStopped P.made P.faults ports.old.items ports.new.items (F.holds files.old)
         (PutFront (K.written out.old) (K.written out.new)) named) }
     ensures cut_text { result.status ≡ 5 → IfSome result.run (λ r. CutAfter r (K.written out.old) (K.written out.new)) }
@@ -285,12 +287,14 @@ pub fn top<F: Files, K: Sink, P: Port>(
         (Put (K.written out.old) (K.written out.new)) named) }
     ensures failed { result.status ≡ 5 → Rose (K.faults out.old) (K.faults out.new) }
     ensures cut_line { result.status ≡ 5 → result.run ≡ None →
-        SaysWords (bytes_of_words words.now) (PutFront (K.written out.old) (K.written out.new))
+        SaysWords (bytes_of_words words.now)
+        (PutFrontUnasked ports.old.items ports.new.items (K.written out.old) (K.written out.new))
         ⊎ OfWords (bytes_of_words words.now) (λ named.
-        SaysRefused (F.holds files.old) (PutFront (K.written out.old) (K.written out.new)) named
+        SaysRefused (F.holds files.old)
+        (PutFrontUnasked ports.old.items ports.new.items (K.written out.old) (K.written out.new)) named
         ⊎ SaysNotRead (F.holds files.old)
         (F.faults files.old) (F.faults files.new) (F.asked files.old) (F.asked files.new)
-        (PutFront (K.written out.old) (K.written out.new)) named
+        (PutFrontUnasked ports.old.items ports.new.items (K.written out.old) (K.written out.new)) named
         ⊎ SaysBootStopped P.made P.faults ports.old.items ports.new.items (F.holds files.old)
         (PutFront (K.written out.old) (K.written out.new)) named) }
     ensures cut_text { result.status ≡ 5 → IfSome result.run (λ r. CutAfter r (K.written out.old) (K.written out.new)) }

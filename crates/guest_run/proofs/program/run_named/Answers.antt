@@ -10,7 +10,7 @@ pub returns-in-Err-clause-first_refused : goal.returns-in-Err-clause-first_refus
 returns-in-Err-clause-first_refused g c = first_refused_of g.P.Port.made g.P.Port.faults c.args.ports.now.items c.run.new.ports.items (g.F.Files.holds c.args.files.now) (seen c.args.names.now) (g.F.Files.faults c.args.files.now) (g.F.Files.faults c.run.new.files) (g.F.Files.asked c.args.files.now) (g.F.Files.asked c.run.new.files) (g.K.Sink.written c.args.out.now) (g.K.Sink.written c.end_by.new.out) (g.K.Sink.faults c.args.out.now) (g.K.Sink.faults c.end_by.new.out) c.in-Err.stop c.end_by.result.status c.in-Err.ensures.stop c.end_by.ensures.ends
 
 pub returns-in-Err-clause-cut_line : goal.returns-in-Err-clause-cut_line
-returns-in-Err-clause-cut_line g c is none = cut_line_of g.P.Port.made g.P.Port.faults c.args.ports.now.items c.run.new.ports.items (g.F.Files.holds c.args.files.now) (seen c.args.names.now) (g.F.Files.faults c.args.files.now) (g.F.Files.faults c.run.new.files) (g.F.Files.asked c.args.files.now) (g.F.Files.asked c.run.new.files) (g.K.Sink.written c.args.out.now) (g.K.Sink.written c.end_by.new.out) (g.K.Sink.faults c.args.out.now) (g.K.Sink.faults c.end_by.new.out) c.in-Err.stop c.end_by.result.status c.in-Err.ensures.stop c.end_by.ensures.ends is
+returns-in-Err-clause-cut_line g c is none = cut_line_of g.P.Port.made g.P.Port.faults c.args.ports.now.items c.run.new.ports.items (g.F.Files.holds c.args.files.now) (seen c.args.names.now) (g.F.Files.faults c.args.files.now) (g.F.Files.faults c.run.new.files) (g.F.Files.asked c.args.files.now) (g.F.Files.asked c.run.new.files) (g.K.Sink.written c.args.out.now) (g.K.Sink.written c.end_by.new.out) (g.K.Sink.faults c.args.out.now) (g.K.Sink.faults c.end_by.new.out) c.in-Err.stop c.end_by.result.status c.in-Err.ensures.stop c.end_by.ensures.ends c.in-Err.ensures.unasked is
 
 pub returns-in-Err-clause-complete : goal.returns-in-Err-clause-complete
 returns-in-Err-clause-complete g c good kept sink = complete_of g.P.Port.made g.P.Port.faults c.args.ports.now.items c.run.new.ports.items (g.F.Files.holds c.args.files.now) (seen c.args.names.now) (g.F.Files.faults c.args.files.now) (g.F.Files.faults c.run.new.files) (g.F.Files.asked c.args.files.now) (g.F.Files.asked c.run.new.files) (g.K.Sink.written c.args.out.now) (g.K.Sink.written c.end_by.new.out) (g.K.Sink.faults c.args.out.now) (g.K.Sink.faults c.end_by.new.out) c.in-Err.stop c.end_by.result.status c.in-Err.ensures.stop c.end_by.ensures.ends good kept sink
