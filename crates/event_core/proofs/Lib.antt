@@ -3,4 +3,5 @@ pub mod StandingLemmas
 pub mod RangedLemmas
 pub mod SoundLemmas
 pub mod MapLemmas
+pub mod EarlyLemmas
 pub mod BootFacts

@@ -117,8 +117,8 @@ pub record BootCalls (map : List Descriptor) (table : Option Bits) (boot : Boot)
   pub early : EarlyBy map table pieces
   pub stages : InTurn (StagePart boot) [] (stages_of boot pieces) calls stop
 
--- what boot makes of a map, a table or none, the slots and areas asked for, and the number of processors
-pub record BootRight (map : List Descriptor) (hosts : List HostRun) (table : Option Bits) (slots areas cpus : ℕ) (boot : Boot) : Type 0 where
+-- what boot makes of a map, a table or none, the slots and areas asked for, and the number of processors, before its calls
+pub record Uncalled (map : List Descriptor) (hosts : List HostRun) (table : Option Bits) (slots areas cpus : ℕ) (boot : Boot) : Type 0 where
   pub ram : AreMaximalRuns (first_by map table) boot.ram
   pub same_hosts : boot.hosts ≡ hosts
   pub unit : boot.unit ≡ unit_by table
@@ -129,4 +129,22 @@ pub record BootRight (map : List Descriptor) (hosts : List HostRun) (table : Opt
   pub same_areas : boot.areas ≡ areas
   pub raised : boot.slots ≡ (if slots == 0 then 0 else raised_slots slots areas)
   pub pool : PoolPlaced boot boot.pool
+
+-- the boot of a map came to its end
+pub record BootRight (map : List Descriptor) (hosts : List HostRun) (table : Option Bits) (slots areas cpus : ℕ) (boot : Boot) : Type 0 where
+  pub uncalled : Uncalled map hosts table slots areas cpus boot
   pub made : BootCalls map table boot boot.calls None
+
+-- the boot of a map made these calls, and stopped at the page
+pub record BootStopped (map : List Descriptor) (hosts : List HostRun) (table : Option Bits) (slots areas cpus : ℕ) (calls : List ModuleCall) (page : Page) : Type 0 where
+  pub boot : Boot
+  pub uncalled : Uncalled map hosts table slots areas cpus boot
+  pub made : BootCalls map table boot calls (Some page)
+
+-- these calls are a front of those that a boot of the map makes, whether that stops or comes to its end
+pub record BootFront (map : List Descriptor) (hosts : List HostRun) (table : Option Bits) (slots areas cpus : ℕ) (calls : List ModuleCall) : Type 0 where
+  pub boot : Boot
+  pub uncalled : Uncalled map hosts table slots areas cpus boot
+  pub later : List ModuleCall
+  pub stop : Option Page
+  pub made : BootCalls map table boot (calls ++ later) stop

@@ -271,7 +271,7 @@ waits-by boot block pieces lower (Some pool) done rest is at = waits-pooled boot
 pub waits-as-comes : (boot : Boot) (block : Block) (done : List ModuleCall) → ComesTo boot block done → block.order ≡ 10 → waits_at_boot boot block ≡ waits_after boot done block
 waits-as-comes boot block done comes ten =
     let made = comes.made in
-    let right = made.right in
+    let right = made.right.uncalled in
     let split = stages-split boot comes.pieces comes.before block comes.later comes.stages in
     let rises = cut-rises boot right.ram.rise in
     let at = rise-split 0 rises.0 split.lower block split.higher (subst (RiseTo 0 rises.0) split.cut_is rises.1) in

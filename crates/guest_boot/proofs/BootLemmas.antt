@@ -7,15 +7,15 @@ use Rattle.guest_base.specs.declared.memory.HostRun.{HostRun}
 use Rattle.event_core.specs.declared.boot.Descriptor.{Descriptor}
 use Rattle.event_core.specs.declared.boot.Boot.{Boot}
 use Rattle.event_core.specs.declared.module_call.ModuleCall.{ModuleCall}
-use Rattle.event_core.specs.Boot.{BootRight, PoolPlaced, InTurn, StagePart, stages_of}
+use Rattle.event_core.specs.Boot.{BootRight, Uncalled, PoolPlaced, InTurn, StagePart, stages_of}
 use Rattle.event_core.specs.Map.{MapRules}
 use Rattle.event_core.specs.Given.{FitsGiven}
 use Rattle.event_core.specs.Table.{Bits}
 use Rattle.unaccepted_bitmap.specs.StubMap.{pending_run}
 use Rattle.memory_core.specs.Booted.{IsBooted}
 use Rattle.guest_boot.specs.Booting.{IsEarly}
-use Rattle.guest_boot.specs.Starting.{Uncalled, IsFirstBoot, BeginsWith, EarlyRunsBy}
-use Rattle.guest_boot.specs.Stopped.{BootStopped}
+use Rattle.guest_boot.specs.Starting.{IsFirstBoot, BeginsWith, EarlyRunsBy}
+use Rattle.event_core.specs.Boot.{BootStopped}
 use Rattle.guest_boot.proofs.StartLemmas.{uncalled, is-booted, early-each}
 use Rattle.guest_boot.proofs.StageLemmas.{with_calls, stages-same}
 
@@ -48,16 +48,18 @@ same-pool boot calls (Some pool) placed = (placed.0, record { pages = placed.1.p
 
 right-of : (descriptors : List Descriptor) (hosts : List HostRun) (table : Option Bits) (slots areas cpus : ℕ) (pieces : List PageRun) (boot : Boot) (calls made : List ModuleCall) → Uncalled descriptors hosts table slots areas cpus boot → EarlyRunsBy descriptors table pieces → calls ≡ made → Went boot pieces made None → BootRight descriptors hosts table slots areas cpus (with_calls boot calls)
 right-of descriptors hosts table slots areas cpus pieces boot calls made plain early same went = record {
-  ram = plain.ram;
-  same_hosts = plain.same_hosts;
-  unit = plain.unit;
-  base = plain.base;
-  bitmap = plain.bitmap;
-  bits = plain.bits;
-  same_cpus = plain.same_cpus;
-  same_areas = plain.same_areas;
-  raised = plain.raised;
-  pool = same-pool boot calls boot.pool plain.pool;
+  uncalled = record {
+    ram = plain.ram;
+    same_hosts = plain.same_hosts;
+    unit = plain.unit;
+    base = plain.base;
+    bitmap = plain.bitmap;
+    bits = plain.bits;
+    same_cpus = plain.same_cpus;
+    same_areas = plain.same_areas;
+    raised = plain.raised;
+    pool = same-pool boot calls boot.pool plain.pool;
+  };
   made = record {
     pieces = early.pieces;
     early = early.early;
@@ -86,18 +88,8 @@ begins-rules descriptors hosts table areas cpus ram bits pieces boot b = subst (
 -- a boot that stopped
 pub begins-stopped : (descriptors : List Descriptor) (hosts : List HostRun) (table : Option Bits) (areas cpus : ℕ) (ram : List PageRun) (bits : Option Bits) (pieces : List PageRun) (boot : Boot) (made : List ModuleCall) (page : Page) → Begins descriptors hosts table areas cpus ram bits pieces boot → Went boot pieces made (Some page) → BootStopped descriptors hosts table 0 areas cpus made page
 begins-stopped descriptors hosts table areas cpus ram bits pieces boot made page b went =
-    let plain = begins-plain descriptors hosts table areas cpus ram bits pieces boot b in
     record {
       boot = boot;
-      ram = plain.ram;
-      same_hosts = plain.same_hosts;
-      unit = plain.unit;
-      base = plain.base;
-      bitmap = plain.bitmap;
-      bits = plain.bits;
-      same_cpus = plain.same_cpus;
-      same_areas = plain.same_areas;
-      raised = plain.raised;
-      pool = plain.pool;
+      uncalled = begins-plain descriptors hosts table areas cpus ram bits pieces boot b;
       made = record { pieces = b.begins.early.pieces; early = b.begins.early.early; stages = went b.begins.early.pieces b.begins.early.are };
     }

@@ -14,7 +14,7 @@ ghost use Rattle.unaccepted_bitmap.specs.StubMap.{pending_run};
 ghost use Rattle.guest_boot.specs.Booting.{StandsAfter, IsEarly};
 ghost use Rattle.guest_boot.specs.Starting.{IsFirstBoot, BeginsWith};
 ghost use Rattle.guest_boot.specs.Worlds.{WorldStands};
-ghost use Rattle.guest_boot.specs.Stopped.{BootStopped};
+ghost use Rattle.event_core.specs.Boot.{BootStopped};
 
 use crate::accept::Kept;
 use crate::cut::cut_blocks;

@@ -17,7 +17,7 @@ use Rattle.event_core.specs.Legal.{at_place, with_bytes, LegalAfter, Legal}
 use Rattle.guest_base.specs.Counts.{Rose}
 use Rattle.guest_base.specs.declared.memory.Page.{Page}
 use Rattle.efi_map.specs.declared.map.GuestMap.{GuestMap}
-use Rattle.guest_boot.specs.Stopped.{BootStopped}
+use Rattle.event_core.specs.Boot.{BootStopped}
 use Rattle.guest_run.specs.Endings.{BootFailed, OthersUnmade, PortsKept, first_faults, other_ports}
 use Rattle.guest_run.specs.Recordings.{History}
 use Rattle.guest_run.specs.Replies.{port_calls, PortsMade}

@@ -68,7 +68,7 @@ runs_within map hosts table slots areas cpus boot calls runs rules right sound m
     elim (cases_lt page (2 ^ 28)) [
       | inl low ↦ omega (arith, low)
       | inr high ↦
-          let first : state_in boot.ram page ≡ None = none_where (state_in boot.ram page) (λ some. (let low = ram-low map hosts table slots areas cpus boot rules right page some in omega (arith, low, high))) in
+          let first : state_in boot.ram page ≡ None = none_where (state_in boot.ram page) (λ some. (let low = ram-low map hosts table slots areas cpus boot rules right.uncalled page some in omega (arith, low, high))) in
           let none : state_in runs page ≡ None = maximal.each page ∙ none_stays (state_in boot.ram) calls page sound first in
           absurd (found_in page runs k d lt (holds_last run page some (omega (arith, some))) (no_state page (find (run_holds page) runs) none))
     ]

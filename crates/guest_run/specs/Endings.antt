@@ -8,7 +8,7 @@ use Rattle.event_core.specs.Table.{Bits}
 use Rattle.efi_map.specs.declared.map.GuestMap.{GuestMap}
 use Rattle.unaccepted_bitmap.specs.TableFile.{table_of}
 use Rattle.guest_io.specs.Writing.{appended, AppendsPrefix}
-use Rattle.guest_boot.specs.Stopped.{BootStopped}
+use Rattle.event_core.specs.Boot.{BootStopped}
 use Rattle.guest_run.specs.declared.stop.Cause.{Cause}
 use Rattle.guest_run.specs.declared.stop.InputFile.{InputFile}
 use Rattle.guest_run.specs.declared.stop.InputFile.TheVariants.{Order, Map, Table, Script}

@@ -1,12 +1,10 @@
-use Rattle.std.proofs.Common.{◌≡◌, ℕ, zero, suc, ◌+◌, ◌*◌, ◌^◌, ◌<◌, ◌≤◌, Bool, true, false, Option, None, Some, List, [], ◌∷◌, ◌++◌, refl, sym, ◌∙◌, ap, subst, arith, length, append-nil, eqb-true}
-use Rattle.std.specs.Prelude.{sum_by, slice_index_or, map, ◌/◌, ◌==◌, nat_lt, Vec}
+use Rattle.std.proofs.Common.{◌≡◌, ℕ, zero, suc, ◌+◌, ◌≤◌, Bool, true, false, Option, None, Some, List, [], ◌∷◌, ◌++◌, refl, sym, ◌∙◌, ap, subst, arith, length, append-nil}
+use Rattle.std.specs.Prelude.{sum_by, slice_index_or, map, ◌/◌, nat_lt, Vec}
 use Rattle.std.specs.declared.alloc.Global.{Global}
 use Rattle.std.specs.List.{AllByRecursion}
 use Rattle.std.specs.Option.{option_map}
-use Rattle.std.proofs.Math.Nat.{pow-le-pow_right}
 use Rattle.std.proofs.lemmas.List.{length_push}
 use Rattle.std.proofs.lemmas.List.Sums.{sum_by-cons}
-use Rattle.std.proofs.lemmas.Nat.{pow_pos}
 use Rattle.guest_base.specs.declared.memory.HostRun.{HostRun}
 use Rattle.guest_base.specs.declared.memory.PageState.TheVariants.{Pending}
 use Rattle.guest_base.specs.declared.memory.Units.{Units}
@@ -15,16 +13,16 @@ use Rattle.event_core.specs.declared.boot.Boot.{Boot}
 use Rattle.event_core.specs.declared.boot.Descriptor.{Descriptor}
 use Rattle.event_core.specs.declared.entry.Entry.{Entry}
 use Rattle.event_core.specs.declared.module_call.ModuleCall.{ModuleCall}
-use Rattle.event_core.specs.Boot.{BootRight}
+use Rattle.event_core.specs.Boot.{BootRight, Uncalled}
 use Rattle.event_core.specs.Calls.{calls_of, SoundCalls}
 use Rattle.event_core.specs.Claims.{claim_of}
-use Rattle.event_core.specs.Given.{FitsGiven, unit_by}
+use Rattle.event_core.specs.Given.{FitsGiven}
 use Rattle.event_core.specs.Map.{MapRules}
 use Rattle.event_core.specs.MemoryRows.{page_state}
 use Rattle.event_core.specs.Runs.{state_in as first_state_of}
-use Rattle.event_core.specs.Table.{Bits, is_unit}
+use Rattle.event_core.specs.Table.{Bits}
 use Rattle.event_core.specs.Units.{bit_of, bit_after, is_marked, unit_count, unit_first, unit_pages}
-use Rattle.event_core.proofs.BootFacts.{TakesNone, set-pending, ram-low, boot-marks, boot-takes-none}
+use Rattle.event_core.proofs.BootFacts.{unit-size, IsSize, TakesNone, set-pending, ram-low, boot-marks, boot-takes-none}
 use Rattle.page_module.specs.States.{state_in}
 use Rattle.page_module.specs.Tables.{Table}
 use Rattle.page_module.specs.declared.ticket.Ticket.{Ticket}
@@ -87,36 +85,12 @@ second_of_two : (b c : Bool) → elim b as (λ _. Bool) [ true ↦ c | false ↦
 second_of_two true c h = h
 second_of_two false c h = cc
 
--- a unit is a number of pages, 512 at most
-record IsSize (pages : ℕ) : Type 0 where
-  pub some : 0 < pages
-  pub small : pages ≤ 512
-
-size-of : (unit order : ℕ) → order < 10 → unit ≡ 4096 * 2 ^ order → IsSize (unit / 4096)
-size-of unit order low is =
-    let pages : unit / 4096 ≡ 2 ^ order = (let whole : 4096 * 2 ^ order / 4096 ≡ 2 ^ order = omega arith in ap (λ u. u / 4096) is ∙ whole) in
-    let some = pow_pos order in
-    let under : order ≤ 9 = omega (arith, low) in
-    let two : 0 < 2 = omega arith in
-    let few : 2 ^ order ≤ 2 ^ 9 = pow-le-pow_right {n = 2} two {i = order} {j = 9} under in
-    record { some = omega (arith, pages, some); small = omega (arith, pages, few) }
-
-table-size : (unit : ℕ) → is_unit unit ≡ true → IsSize (unit / 4096)
-table-size unit is =
-    let found = any_such-true (λ order. unit == 4096 * 2 ^ order) 0 10 is in
-    let high = found.1.high in
-    size-of unit found.0 (omega (arith, high)) (eqb-true unit (4096 * 2 ^ found.0) found.1.passes)
-
-unit-size : (map : List Descriptor) (table : Option Bits) → FitsGiven map table → IsSize (unit_by table / 4096)
-unit-size map None fits = record { some = omega arith; small = omega arith }
-unit-size map (Some table) fits = table-size table.unit fits.is_table.unit_is
-
-pub booted : (map : List Descriptor) (hosts : List HostRun) (table : Option Bits) (slots areas cpus : ℕ) (boot : Boot) → MapRules map hosts → FitsGiven map table → BootRight map hosts table slots areas cpus boot → boot.cpus ≤ 64 → IsBooted boot
-booted map hosts table slots areas cpus boot rules fits right few =
-    let size = subst (λ u. IsSize (u / 4096)) (sym right.unit) (unit-size map table fits) in
+pub booted : (map : List Descriptor) (hosts : List HostRun) (table : Option Bits) (slots areas cpus : ℕ) (boot : Boot) → MapRules map hosts → FitsGiven map table → Uncalled map hosts table slots areas cpus boot → boot.cpus ≤ 64 → IsBooted boot
+booted map hosts table slots areas cpus boot rules fits plain few =
+    let size = subst (λ u. IsSize (u / 4096)) (sym plain.unit) (unit-size map table fits) in
     record {
-      pending = set-pending map hosts table slots areas cpus boot rules fits right;
-      low = ram-low map hosts table slots areas cpus boot rules right;
+      pending = set-pending map hosts table slots areas cpus boot rules fits plain;
+      low = ram-low map hosts table slots areas cpus boot rules plain;
       some = size.some;
       small = size.small;
       cpus = few;
@@ -147,7 +121,7 @@ new-stands descriptors given hosts slots areas cpus boot value entries table bit
     let calls : calls_of boot entries.items ≡ boot.calls = ap (calls_of boot) none ∙ append-nil boot.calls in
     let reports = sum-none reports_of claims refl kept.none in
     let long = ap (λ (es : List Entry). length es) none in
-    let begun = booted descriptors hosts given slots areas cpus boot rules fits right few in
+    let begun = booted descriptors hosts given slots areas cpus boot rules fits right.uncalled few in
     let takes = boot-takes-none descriptors hosts given slots areas cpus boot right in
     let P : List ModuleCall → Type 0 = λ cs. HoldsFor boot cs (claim_of boot entries.items) table.runs table.out (bits_in bits) (kept_by claims) in
     let Q : Boot → Type 0 = λ b. StandsFor b entries 0 table bits ranges claims (boot.unit / 4096) 0 0 in

@@ -26,7 +26,7 @@ returns-clause-accepted_once g c =
     let i = c.loop-number.invariant in
     let F : List Command → Type 0 = All IsFirstCommand in
     let S : Boot → Type 0 = λ b. SoundCalls (state_in b.ram) b.calls in
-    once_of c.finished.result c.loop-number.processor.boot c.loop-number.processor.script (subst F (sym i.script) c.requires.first) (ap (λ (b : Boot). b.cpus) i.boot ∙ c.requires.right.7.same_cpus) (subst S (sym i.boot) c.requires.stands.sound) c.finished.ensures.boot c.finished.ensures.scripts c.finished.ensures.history
+    once_of c.finished.result c.loop-number.processor.boot c.loop-number.processor.script (subst F (sym i.script) c.requires.first) (ap (λ (b : Boot). b.cpus) i.boot ∙ c.requires.right.7.uncalled.same_cpus) (subst S (sym i.boot) c.requires.stands.sound) c.finished.ensures.boot c.finished.ensures.scripts c.finished.ensures.history
 
 pub returns-clause-untouched : goal.returns-clause-untouched
 returns-clause-untouched g c =
