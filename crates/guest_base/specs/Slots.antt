@@ -1,14 +1,10 @@
-use Rattle.std.specs.Prelude.{ℕ, ◌+◌, ◌-◌, ◌%◌, ◌==◌, ◌&&◌, ◌≤◌, Bool, true, not, nat_le, Option, Some, None, if◌then◌else◌}
+use Rattle.std.specs.Prelude.{ℕ, ◌+◌, ◌-◌, ◌%◌, ◌==◌, ◌&&◌, ◌≤◌, Bool, true, not, nat_le, Option, if◌then◌else◌}
+use Rattle.std.specs.Option.{option_or}
 use Rattle.guest_base.specs.declared.transfer.Align.{Align}
 use Rattle.guest_base.specs.declared.transfer.Align.TheVariants.{Any, Even, Odd}
 use Rattle.guest_base.specs.Search.{first_such, each_such, row_length}
 
 -- A segment is 128 slots. The slots of an area are the numbers below its count, and a test tells the used ones.
-
--- the first answer, or the second where the first is none (own rule)
-abbrev pub or_else : Option ℕ → Option ℕ → Option ℕ
-or_else (Some at) second = Some at
-or_else None second = second
 
 -- the length of the free run that begins at a slot, within its segment; 0 where the slot is used (swiotlb.c)
 abbrev pub free_run : (ℕ → Bool) → ℕ → ℕ
@@ -34,7 +30,7 @@ fits_at used slots need align at =
 -- the first start that fits, in the order hint, .., last, 0, .., hint - 1 (swiotlb.c)
 abbrev pub choose : (ℕ → Bool) → ℕ → ℕ → ℕ → Align → Option ℕ
 choose used slots hint need align =
-    or_else
+    option_or
     (first_such (fits_at used slots need align) hint (slots - hint))
     (first_such (fits_at used slots need align) 0 hint)
 
