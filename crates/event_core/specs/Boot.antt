@@ -21,6 +21,7 @@ use Rattle.event_core.specs.Acceptance.{AcceptanceSteps, stop_of}
 use Rattle.event_core.specs.MemoryRows.{page_state, is_pending, AcceptsUnits}
 use Rattle.event_core.specs.Cut.{cut}
 use Rattle.std.specs.Prelude.{◌&&◌}
+use Rattle.guest_base.specs.declared.limits.TheConstants.{PAGE_BYTES}
 
 -- What boot makes of a map, and of a table where one is handed in (the stub and the unaccepted bitmap after Linux's EFI stub; the pool and the blocks are own rules).
 
@@ -72,7 +73,7 @@ abbrev pub AcceptsBlock : Boot → List ModuleCall → Block → List ModuleCall
 AcceptsBlock boot before block calls stop =
     elim (block.order == 10) as (λ _. Type 0) [
       | true ↦ (calls ≡ []) × (stop ≡ None)
-      | false ↦ AcceptsRange boot before (4096 * block.first) (4096 * 2 ^ block.order) calls stop
+      | false ↦ AcceptsRange boot before (PAGE_BYTES * block.first) (PAGE_BYTES * 2 ^ block.order) calls stop
     ]
 
 -- the stages of boot
@@ -84,7 +85,7 @@ pub data Stage : Type 0 where
 
 abbrev pub StagePart : Boot → List ModuleCall → Stage → List ModuleCall → Option Page → Type 0
 StagePart boot before (Early pages) calls stop = AcceptsPiece boot before pages calls stop
-StagePart boot before (PoolAccepted pages) calls stop = AcceptsRange boot before (4096 * pages.first) (4096 * pages.count) calls stop
+StagePart boot before (PoolAccepted pages) calls stop = AcceptsRange boot before (PAGE_BYTES * pages.first) (PAGE_BYTES * pages.count) calls stop
 StagePart boot before (PoolShared pages) calls stop = SharesPool pages calls stop
 StagePart boot before (BlockAccepted block) calls stop = AcceptsBlock boot before block calls stop
 
