@@ -42,7 +42,7 @@ abbrev pub AcceptsPiece : Boot → List ModuleCall → Pages → List ModuleCall
 AcceptsPiece boot before pages calls stop =
     AcceptanceSteps boot.hosts (pending_piece boot before pages) (pages.first + pages.count) pages.first None calls × (stop ≡ stop_of calls)
 
--- the maximal runs of set bits of units from one on, at most so many
+-- the maximal runs of set bits of units from one on, at most this many
 abbrev pub runs_from : (ℕ → Bool) → ℕ → ℕ → ℕ → List Units
 runs_from test zero from end = []
 runs_from test (suc most) from end =
@@ -98,7 +98,7 @@ pool_stages (Some pool) = PoolAccepted pool ∷ PoolShared pool ∷ []
 abbrev pub stages_of : Boot → List Pages → List Stage
 stages_of boot pieces = map Early pieces ++ pool_stages boot.pool ++ map BlockAccepted (cut boot)
 
--- a place from which so many pages are RAM
+-- a place from which this many pages are RAM
 abbrev pub HasRoom : Boot → ℕ → ℕ → Type 0
 HasRoom boot count first = (page : ℕ) → in_range first count page ≡ true → state_in boot.ram page ≢ None
 

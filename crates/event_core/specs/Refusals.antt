@@ -37,7 +37,7 @@ if_private PrivateBlock = Some IsPrivate
 if_private SharedBlock = None
 if_private HalfBlock = None
 
--- a range passes the end of what it lies in, of so many bytes
+-- a range passes the end of what it lies in, of this many bytes
 abbrev pub past_end : ℕ → ℕ → ℕ → Option Reply
 past_end size off len = refuse Range (nat_lt size (off + len)) None
 

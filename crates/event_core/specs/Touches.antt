@@ -15,7 +15,7 @@ use Rattle.event_core.specs.Refusals.{refusal_of}
 -- The pages that an entry touches as private memory of the guest (own rule): to hand out a block every page of it is zeroed, reads
 -- and writes touch the pages of their bytes, and so do copies into and out of the pool, on the block's side.
 
--- the pages of so many bytes of a block from an offset on
+-- the pages of this many bytes of a block from an offset on
 abbrev pub pages_of_bytes : Block → ℕ → ℕ → Pages
 pages_of_bytes block off len =
     let start = PAGE_BYTES * block.first + off in
