@@ -17,8 +17,9 @@ use Rattle.event_core.specs.declared.boot.Descriptor.{Descriptor}
 use Rattle.event_core.specs.Map.{ram_pages, descriptor_end, IsDescriptor, AreApart, IsHostRecord, AreHostsApart, MapRules}
 use Rattle.efi_map.specs.declared.fault.MapFault.{MapFault}
 use Rattle.efi_map.specs.declared.fault.MapFault.TheVariants.{Short, BadMagic, BadSize, BadVersion, TooMany, Unaligned, TooHigh, TooMuchRam, BadHost, Trailing}
-use Rattle.efi_map.specs.declared.map.GuestMap.{GuestMap}
-use Rattle.efi_map.specs.MapFile.{◌>>=◌, number, has_pages, end_limit, meet, place_fault, overlap_fault, ram_fault, descriptor_fault, unless, descriptor_at, descriptors_at, level_of, are_pages, host_record, hosts_meet, host_behind, host_at, hosts_at, Gives, is_stride, word_at, magic_at, stride_at, version_at, count_at, header_at, all_descriptors_at, all_hosts_at, map_of}
+use Rattle.guest_map.specs.declared.map.GuestMap.{GuestMap}
+use Rattle.guest_map.specs.Fields.{number}
+use Rattle.efi_map.specs.MapFile.{◌>>=◌, has_pages, end_limit, meet, place_fault, overlap_fault, ram_fault, descriptor_fault, unless, descriptor_at, descriptors_at, level_of, are_pages, host_record, hosts_meet, host_behind, host_at, hosts_at, Gives, is_stride, word_at, magic_at, stride_at, version_at, count_at, header_at, all_descriptors_at, all_hosts_at, map_of}
 use Rattle.efi_map.proofs.Steps.{IsBytes, IsBytes-drop, bind_ok, guard_ok, guarded_ok, cond_none, cond_else_none, cond_err_ok, cond_then_some, ok_is, position_none, list_any_false}
 
 -- ---- one descriptor

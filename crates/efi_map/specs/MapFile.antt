@@ -3,7 +3,6 @@
 use Rattle.std.specs.Prelude.{◌≡◌, ◌⊎◌, ℕ, zero, suc, ◌+◌, ◌-◌, ◌/◌, ◌%◌, ◌^◌, Bool, ◌&&◌, ◌==◌, nat_lt, nat_le, List, [], ◌∷◌, ◌++◌, length, drop, filter, sum_by, max, min, position, Option, Some, None, Result, Ok, Err, if◌then◌else◌}
 use Rattle.std.specs.List.{list_any}
 use Rattle.std.specs.Option.{option_map}
-use Rattle.byteorder.specs.Endian.{little_number}
 use Rattle.guest_base.specs.declared.memory.Level.{Level}
 use Rattle.guest_base.specs.declared.memory.Level.TheVariants.{Small, Large, Huge}
 use Rattle.guest_base.specs.declared.memory.HostRun.{HostRun}
@@ -11,7 +10,8 @@ use Rattle.event_core.specs.declared.boot.Descriptor.{Descriptor}
 use Rattle.event_core.specs.Map.{is_ram, ram_pages, descriptor_end}
 use Rattle.efi_map.specs.declared.fault.MapFault.{MapFault}
 use Rattle.efi_map.specs.declared.fault.MapFault.TheVariants.{Short, BadMagic, BadSize, BadVersion, TooMany, Unaligned, TooHigh, Overlap, TooMuchRam, BadHost, Trailing, NoMemory}
-use Rattle.efi_map.specs.declared.map.GuestMap.{GuestMap}
+use Rattle.guest_map.specs.declared.map.GuestMap.{GuestMap}
+use Rattle.guest_map.specs.Fields.{number}
 
 infixl 10 ◌>>=◌
 abbrev pub ◌>>=◌ : {A B : Type 0} → Result A MapFault → (A → Result B MapFault) → Result B MapFault
@@ -22,10 +22,6 @@ abbrev pub ◌>>=◌ : {A B : Type 0} → Result A MapFault → (A → Result B 
 abbrev pub Gives : {X Y : Type 0} → (X → Y) → Result X MapFault → Result Y MapFault → Type 0
 Gives view (Ok x) read = read ≡ Ok (view x)
 Gives view (Err e) read = (e ≡ NoMemory) ⊎ (read ≡ Err e)
-
--- the little-endian number in the first bytes
-unfoldable pub number : ℕ → List ℕ → ℕ
-number width bytes = little_number width bytes
 
 -- A field is a value and the bytes after it. `size` is the length of the whole file, which is told where the file ends too early.
 abbrev pub word_at : ℕ → List ℕ → Result (ℕ × List ℕ) MapFault

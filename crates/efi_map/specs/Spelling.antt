@@ -1,17 +1,13 @@
 -- The map file of a map, with descriptors of 40 bytes.
 use Rattle.std.specs.Prelude.{ℕ, ◌*◌, List, ◌++◌, length, ◌≤◌}
 use Rattle.std.specs.List.{flat_map}
-use Rattle.byteorder.specs.Endian.{little_bytes}
 use Rattle.guest_base.specs.declared.memory.Level.{Level}
 use Rattle.guest_base.specs.declared.memory.Level.TheVariants.{Small, Large, Huge}
 use Rattle.guest_base.specs.declared.memory.HostRun.{HostRun}
 use Rattle.event_core.specs.declared.boot.Descriptor.{Descriptor}
 use Rattle.event_core.specs.Map.{MapRules}
-use Rattle.efi_map.specs.declared.map.GuestMap.{GuestMap}
-
--- the lowest bytes of a number, the lowest of them first
-unfoldable pub low_bytes : ℕ → ℕ → List ℕ
-low_bytes width n = little_bytes width n
+use Rattle.guest_map.specs.declared.map.GuestMap.{GuestMap}
+use Rattle.guest_map.specs.Fields.{low_bytes}
 
 -- a memory descriptor: type, padding, physical start, virtual start, number of pages, attribute (UEFI)
 unfoldable pub descriptor_bytes : Descriptor → List ℕ

@@ -2,7 +2,7 @@
 ghost use Rattle.std.specs.Prelude.{◌≡◌, ◌<◌, ◌≤◌, ◌^◌, [], length, position, sum_by};
 ghost use Rattle.std.specs.BTreeMap.{get};
 ghost use Rattle.std.specs.Ordering.{nat_cmp};
-ghost use Rattle.event_core.specs.Map.{is_ram as names_ram, descriptor_end, ram_pages};
+ghost use Rattle.event_core.specs.Map.{descriptor_end, ram_pages};
 ghost use Rattle.efi_map.specs.Starts.{IndexesDescriptors};
 ghost use Rattle.efi_map.specs.MapFile.{Gives, descriptor_at, descriptors_at, all_descriptors_at, descriptor_fault, end_limit, meet};
 
@@ -12,14 +12,8 @@ use crate::starts::{Starts, is_clear, note};
 use byteorder::{ByteOrder, LittleEndian};
 use event_core::Descriptor;
 use guest_base::limits::{ADDRESS_END, MAX_RAM_PAGES, PAGE_BYTES};
+use guest_map::is_ram;
 use std::alloc::Global;
-
-/// Whether a descriptor is RAM: loader code and data, boot services code and data, conventional or unaccepted memory.
-pub fn is_ram(d: Descriptor) -> bool
-    ensures { result ≡ names_ram d }
-{
-    matches!(d.kind, 1..=4 | 7 | 15)
-}
 
 /// The address behind a descriptor's last byte.
 fn end(d: Descriptor) -> u128
@@ -47,7 +41,7 @@ fn end_limit(d: Descriptor) -> u128
     }
 }
 
-#[tactic(auto, unfolding(crate::specs::MapFile::descriptor_at, crate::specs::MapFile::number))]
+#[tactic(auto, unfolding(crate::specs::MapFile::descriptor_at, guest_map::specs::Fields::number))]
 fn descriptor(size: u64, stride: u32, bytes: &[u8]) -> Result<(Descriptor, &[u8]), MapFault>
     requires { 40 ≤ stride }
     ensures { Gives (λ x. (x.0, x.1.now)) result (descriptor_at size stride bytes.now) }

@@ -9,7 +9,7 @@ use guest_base::limits::MAX_DESCRIPTORS;
 /// The bytes `GMAP`, as a number.
 pub const MAGIC: u32 = 0x50414d47;
 
-#[tactic(auto, unfolding(crate::specs::MapFile::number))]
+#[tactic(auto, unfolding(guest_map::specs::Fields::number))]
 fn word(size: u64, bytes: &[u8]) -> Result<(u32, &[u8]), MapFault>
     ensures { Gives (λ x. (x.0, x.1.now)) result (word_at size bytes.now) }
 {

@@ -78,7 +78,7 @@ fn meets_one(before: &[HostRun], starts: &Starts, run: HostRun) -> bool
     !is_clear(starts, run.pages.first, last) && before.iter().any(|earlier| meet(run, *earlier))
 }
 
-#[tactic(auto, unfolding(crate::specs::MapFile::host_at, crate::specs::MapFile::number))]
+#[tactic(auto, unfolding(crate::specs::MapFile::host_at, guest_map::specs::Fields::number))]
 fn host<'a>(
     size: u64,
     before: &[HostRun],

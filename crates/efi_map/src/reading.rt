@@ -6,8 +6,8 @@ ghost use Rattle.efi_map.specs.MapFile.{Gives, has_pages, map_of};
 use crate::descriptors::all_descriptors;
 use crate::fault::MapFault;
 use crate::hosts::all_hosts;
-use crate::map::GuestMap;
 use event_core::{Descriptor, Descriptors, Hosts};
+use guest_map::GuestMap;
 use std::alloc::{AllocError, Global};
 
 /// The descriptors that have pages.

@@ -1,6 +1,7 @@
 use super::*;
 use event_core::{Descriptor, Descriptors, Hosts};
 use guest_base::{HostRun, Level, PageRun, PageState, Pages};
+use guest_map::GuestMap;
 use std::alloc::{AllocError, Global};
 use std::test::*;
 

@@ -14,7 +14,7 @@ use Rattle.guest_run.specs.Stopping.{BootFails, EndsWith, StopEnds, Stopped, Sto
 use Rattle.guest_run.specs.Stops.{name_of, refused_line, boot_line, stop_line, status_of}
 use Rattle.guest_words.specs.Words.{Named}
 use Rattle.guest_run.proofs.InputLemmas.{front_to, asks_all}
-use Rattle.efi_map.specs.declared.map.GuestMap.{GuestMap}
+use Rattle.guest_map.specs.declared.map.GuestMap.{GuestMap}
 use Rattle.efi_map.specs.MapFile.{map_of}
 use Rattle.event_core.specs.Table.{Bits}
 

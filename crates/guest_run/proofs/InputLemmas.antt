@@ -4,7 +4,7 @@ use Rattle.std.specs.Option.{option_and_then, option_map, option_or, option_to_l
 use Rattle.std.proofs.lemmas.Bool.{cases_Bool}
 use Rattle.std.proofs.lemmas.Bool.Decides.{nat_tests}
 use Rattle.guest_io.proofs.CountLemmas.{Rose-after}
-use Rattle.efi_map.specs.declared.map.GuestMap.{GuestMap}
+use Rattle.guest_map.specs.declared.map.GuestMap.{GuestMap}
 use Rattle.event_core.specs.declared.command.Command.{Command}
 use Rattle.guest_script.specs.Script.{script_of}
 use Rattle.guest_run.specs.declared.stop.Cause.{Cause}

@@ -16,7 +16,7 @@ use Rattle.event_core.specs.Table.{Bits}
 use Rattle.event_core.specs.Legal.{at_place, with_bytes, LegalAfter, Legal}
 use Rattle.guest_base.specs.Counts.{Rose}
 use Rattle.guest_base.specs.declared.memory.Page.{Page}
-use Rattle.efi_map.specs.declared.map.GuestMap.{GuestMap}
+use Rattle.guest_map.specs.declared.map.GuestMap.{GuestMap}
 use Rattle.event_core.specs.Boot.{BootStopped}
 use Rattle.guest_run.specs.Endings.{BootFailed, OthersUnmade, PortsKept, first_faults, other_ports}
 use Rattle.guest_run.specs.Recordings.{History}

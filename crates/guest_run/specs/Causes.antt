@@ -5,7 +5,7 @@ use Rattle.event_core.specs.declared.boot.Descriptor.{Descriptor}
 use Rattle.event_core.specs.declared.command.Command.{Command}
 use Rattle.event_core.specs.Table.{Bits, bad_unit}
 use Rattle.efi_map.specs.declared.fault.MapFault.{MapFault}
-use Rattle.efi_map.specs.declared.map.GuestMap.{GuestMap}
+use Rattle.guest_map.specs.declared.map.GuestMap.{GuestMap}
 use Rattle.efi_map.specs.MapFile.{map_of}
 use Rattle.guest_script.specs.declared.fault.ScriptFault.{ScriptFault}
 use Rattle.guest_script.specs.Script.{script_of}

@@ -5,7 +5,7 @@ use Rattle.guest_base.specs.declared.memory.Page.{Page}
 use Rattle.event_core.specs.declared.module_call.ModuleCall.{ModuleCall}
 use Rattle.event_core.specs.Given.{FitsGiven}
 use Rattle.event_core.specs.Table.{Bits}
-use Rattle.efi_map.specs.declared.map.GuestMap.{GuestMap}
+use Rattle.guest_map.specs.declared.map.GuestMap.{GuestMap}
 use Rattle.unaccepted_bitmap.specs.TableFile.{table_of}
 use Rattle.guest_io.specs.Writing.{appended, AppendsPrefix}
 use Rattle.event_core.specs.Boot.{BootStopped}

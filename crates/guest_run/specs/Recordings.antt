@@ -6,7 +6,7 @@ use Rattle.event_core.specs.Table.{Bits}
 use Rattle.event_core.specs.Legal.{Whole}
 use Rattle.event_core.specs.Turns.{Turned}
 use Rattle.event_core.specs.Printed.{Printed}
-use Rattle.efi_map.specs.declared.map.GuestMap.{GuestMap}
+use Rattle.guest_map.specs.declared.map.GuestMap.{GuestMap}
 use Rattle.guest_io.specs.Writing.{appended, AppendsPrefix}
 use Rattle.guest_script.specs.Script.{script_of}
 use Rattle.guest_words.specs.Words.{Named, named_by}

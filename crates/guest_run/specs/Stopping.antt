@@ -12,7 +12,7 @@ use Rattle.guest_run.specs.Causes.{content_cause, cause_of, cause_by, fit_cause,
 use Rattle.event_core.specs.declared.module_call.ModuleCall.{ModuleCall}
 use Rattle.event_core.specs.declared.boot.Descriptor.{Descriptor}
 use Rattle.event_core.specs.Table.{Bits}
-use Rattle.efi_map.specs.declared.map.GuestMap.{GuestMap}
+use Rattle.guest_map.specs.declared.map.GuestMap.{GuestMap}
 use Rattle.guest_run.specs.Endings.{names_to, AsksFront, BootFailed, IsNotRead, Put, PutFront}
 use Rattle.guest_run.specs.Stops.{name_of, stop_line}
 

@@ -1,9 +1,9 @@
 -- The unaccepted table (after Linux's struct efi_unaccepted_memory): a version, the bytes of a unit, the address of the first unit, how
 -- many bytes of bits there are, and these bytes. Numbers are little endian. Bit k mod 8 of byte k / 8 of the bits is the unit k, and a
 -- set bit means that the unit is unaccepted.
-use Rattle.std.specs.Prelude.{◌≡◌, ◌⊎◌, ℕ, ◌+◌, ◌-◌, ◌*◌, ◌/◌, ◌%◌, ◌^◌, Bool, ◌||◌, ◌==◌, nat_lt, not, List, ◌++◌, length, drop, Option, Some, None, Result, Ok, Err, if◌then◌else◌}
-use Rattle.efi_map.specs.MapFile.{number}
-use Rattle.efi_map.specs.Spelling.{low_bytes}
+use Rattle.std.specs.Prelude.{◌≡◌, ◌⊎◌, ℕ, ◌-◌, ◌%◌, ◌^◌, Bool, ◌||◌, ◌==◌, nat_lt, not, List, ◌++◌, length, drop, Option, Some, None, Result, Ok, Err, if◌then◌else◌}
+use Rattle.guest_map.specs.Fields.{number}
+use Rattle.guest_map.specs.Fields.{low_bytes}
 use Rattle.unaccepted_bitmap.specs.declared.fault.TableFault.{TableFault}
 use Rattle.unaccepted_bitmap.specs.declared.fault.TableFault.TheVariants.{Short, BadVersion, BadUnit, BadBase, BadLength, NoMemory}
 use Rattle.unaccepted_bitmap.specs.declared.table.Header.{Header}

@@ -9,8 +9,8 @@ use crate::bytes::{clear_units, is_set, run_of_set, set_units};
 use crate::guard::guarded_units;
 use crate::stub::{UNIT, stub_bits, unaccepted};
 use crate::table::table_bytes;
-use efi_map::GuestMap;
 use guest_base::{Bytes, Unit, Units};
+use guest_map::GuestMap;
 use std::alloc::{AllocError, Global};
 use std::marker::Model;
 

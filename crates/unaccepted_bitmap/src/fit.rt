@@ -7,10 +7,10 @@ ghost use Rattle.unaccepted_bitmap.specs.Fits.{AreUnaccepted, is_bad};
 use crate::bitmap::Bitmap;
 use crate::fault::BadBit;
 use crate::stub::UNACCEPTED;
-use efi_map::GuestMap;
 use event_core::Descriptor;
 use guest_base::limits::PAGE_BYTES;
 use guest_base::{Page, Pages};
+use guest_map::GuestMap;
 
 /// Whether a descriptor is unaccepted, and a page lies in it.
 fn is_holder(d: Descriptor, page: u64) -> bool

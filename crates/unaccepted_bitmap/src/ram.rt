@@ -1,14 +1,14 @@
 //! The RAM of a map by a table.
 ghost use Rattle.std.specs.Prelude.{◌≡◌, ◌^◌, ◌<◌, ◌≤◌, IfOk, OnOk};
 ghost use Rattle.event_core.specs.Runs.{AreMaximalRuns, state_in, run_end};
-ghost use Rattle.efi_map.specs.Ram.{AreBelow};
+ghost use Rattle.guest_map.specs.Ram.{AreBelow};
 ghost use Rattle.unaccepted_bitmap.specs.Fits.{state_by, IsCut};
 
 use crate::bitmap::Bitmap;
-use efi_map::{GuestMap, push_run};
 use event_core::Runs;
 use guest_base::limits::PAGE_BYTES;
 use guest_base::{PageRun, PageState, Pages};
+use guest_map::{GuestMap, push_run};
 use std::alloc::{AllocError, Global};
 
 /// A run of one page.

@@ -10,10 +10,10 @@ ghost use Rattle.event_core.specs.Units.{bit_of, unit_count};
 ghost use Rattle.unaccepted_bitmap.specs.StubMap.{sets_unit, pending_run, EarlyRuns, IsUnaccepted, IsStubOf, IsRising};
 
 use crate::bytes::set_units;
-use efi_map::GuestMap;
 use event_core::{Descriptor, Runs};
 use guest_base::limits::PAGE_BYTES;
 use guest_base::{PageRun, PageState, Pages, Units};
+use guest_map::GuestMap;
 use std::alloc::{AllocError, Global};
 
 /// The bytes of a unit where no table is handed in: 2 MiB.

@@ -3,10 +3,9 @@ ghost use Rattle.std.specs.Prelude.{◌≡◌, ◌∷◌, [], ◌+◌, ◌<◌, 
 ghost use Rattle.std.specs.List.Sorted.{IsNonDecreasingBy};
 ghost use Rattle.event_core.specs.Map.{MapRules, first_state};
 ghost use Rattle.event_core.specs.Runs.{AreMaximalRuns, state_in, run_end};
-ghost use Rattle.efi_map.specs.Ram.{run_of, ram_of, AreOrdered, AreBelow, IsPushed, grown};
+ghost use Rattle.guest_map.specs.Ram.{run_of, ram_of, AreOrdered, AreBelow, IsPushed, grown};
 
-use crate::descriptors::is_ram;
-use crate::map::GuestMap;
+use crate::map::{GuestMap, is_ram};
 use event_core::{Descriptor, Runs};
 use guest_base::limits::PAGE_BYTES;
 use guest_base::{PageRun, PageState, Pages};
@@ -91,34 +90,16 @@ fn grown(last: PageRun, next: PageRun) -> PageRun
     }
 }
 
-/// Joins a run and those behind it, wherever one goes on with another.
-fn joined_from(alloc: Global, first: PageRun, others: &[PageRun]) -> Result<Runs, AllocError>
-    requires { AreOrdered (first ∷ others.now) }
-    ensures { IfOk result (λ runs. AreMaximalRuns (state_in (first ∷ others.now)) runs) }
-{
-    let mut runs = Runs::new(alloc);
-    let mut last = first;
-    for next in others {
-        if goes_on(last, *next) {
-            last.pages.count += next.pages.count;
-        } else {
-            runs.try_push(last)?;
-            last = *next;
-        }
-    }
-    runs.try_push(last)?;
-    Ok(runs)
-}
-
 /// Joins runs wherever one goes on with another.
 fn joined(alloc: Global, sorted: &[PageRun]) -> Result<Runs, AllocError>
     requires { AreOrdered sorted.now }
     ensures { IfOk result (λ runs. AreMaximalRuns (state_in sorted.now) runs) }
 {
-    match sorted {
-        [] => Ok(Runs::new(alloc)),
-        [first, others @ ..] => joined_from(alloc, *first, others),
+    let mut runs = Vec::new(alloc);
+    for next in sorted {
+        push_run(&mut runs, *next)?;
     }
+    Ok(Runs::from_vec(runs))
 }
 
 impl GuestMap {

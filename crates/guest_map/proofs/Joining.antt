@@ -1,11 +1,11 @@
 -- Joining runs wherever one goes on with another.
-use Rattle.std.proofs.Common.{◌≡◌, ◌≢◌, ℕ, suc, ◌+◌, ◌<◌, ◌≤◌, Bool, true, false, cond, List, [], ◌∷◌, ◌++◌, length, get_or, drop, take, find, Option, Some, None, refl, sym, ap, subst, ◌∙◌, arith}
+use Rattle.std.proofs.Common.{◌≡◌, ◌≢◌, ℕ, ◌+◌, ◌<◌, ◌≤◌, Bool, true, false, cond, List, [], ◌∷◌, ◌++◌, length, get_or, take, find, Option, Some, None, refl, sym, ap, subst, ◌∙◌, arith}
 use Rattle.std.specs.Prelude.{◌||◌}
 use Rattle.std.specs.Option.{option_map, option_or}
 use Rattle.std.specs.List.{All, AllPairs}
 use Rattle.std.proofs.lemmas.Bool.Decides.{nat_tests}
-use Rattle.std.proofs.lemmas.List.{get_or-drop, get_or_default, length-drop, take_more}
-use Rattle.std.proofs.lemmas.List.Elements.{All-nil, All-push}
+use Rattle.std.proofs.lemmas.List.{get_or_default, take_more}
+use Rattle.std.proofs.lemmas.List.Elements.{All-push}
 use Rattle.std.proofs.lemmas.List.{length-append}
 use Rattle.std.proofs.Math.ListN.{get_or-append}
 use Rattle.std.proofs.Math.Seq.{get_or-append_seam}
@@ -14,7 +14,7 @@ use Rattle.std.proofs.lemmas.List.Folds.{find-append}
 use Rattle.guest_base.specs.declared.memory.PageState.{PageState}
 use Rattle.guest_base.specs.declared.memory.PageRun.{PageRun}
 use Rattle.event_core.specs.Runs.{run_holds, run_end, state_in, GoesBefore, AreMaximalRuns}
-use Rattle.efi_map.specs.Ram.{EndsBefore, AreBelow, IsPushed, grown}
+use Rattle.guest_map.specs.Ram.{AreOrdered, AreBelow, IsPushed, grown}
 
 -- what was seen, joined: the runs that are done, and the last one, which may still grow
 pub record Joins (seen runs : List PageRun) (last : PageRun) : Type 0 where
@@ -75,15 +75,6 @@ joins_push seen runs last next ends differs some joins = record {
       (record { ends = ends; differs = differs });
 }
 
-pub joins_start : (first : PageRun) → 0 < first.pages.count → Joins (first ∷ []) [] first
-joins_start first some = record {
-  each = λ page. refl;
-  some = λ k d lt. absurd (omega (arith, lt));
-  last_some = some;
-  rise = λ i j d lt up. absurd (omega (arith, up));
-  before = λ k d lt. absurd (omega (arith, lt));
-}
-
 pub joins_end : (seen runs : List PageRun) (last : PageRun) → Joins seen runs last → AreMaximalRuns (state_in seen) (runs ++ last ∷ [])
 joins_end seen runs last joins = record {
   each = joins.each;
@@ -119,10 +110,6 @@ last_ends runs last page below =
 before_below : (runs : List PageRun) (last : PageRun) → 0 < last.pages.count → All (λ (run : PageRun). GoesBefore run last) runs → AreBelow (run_end last) runs
 before_below runs last some before = λ k d lt. omega (arith, (before k d lt).ends, some)
 
-pub pushed_first : (next : PageRun) → 0 < next.pages.count → IsPushed [] next (next ∷ [])
-pushed_first next some =
-    record { maximal = joins_end (next ∷ []) [] next (joins_start next some); below = ends_push [] next (run_end next) (All-nil (λ (run : PageRun). run_end run ≤ run_end next)) (omega arith) }
-
 pub pushed_grown : (runs : List PageRun) (last next : PageRun) → run_end last ≡ next.pages.first → last.state ≡ next.state
     → AreMaximalRuns (state_in (runs ++ last ∷ [])) (runs ++ last ∷ [])
     → IsPushed (runs ++ last ∷ []) next (runs ++ grown last next ∷ [])
@@ -144,20 +131,35 @@ pushed_behind runs last next differs ends some are =
       below = ends_push (runs ++ last ∷ []) next (run_end next) (before_below (runs ++ last ∷ []) next some more.before) (omega arith);
     }
 
--- what is known of the runs behind the next one
-pub ahead_at : (first : PageRun) (others : List PageRun) (i : ℕ) (d : PageRun) → i < length others → AllPairs EndsBefore (first ∷ others) → All (EndsBefore (get_or others i d)) (drop (i + 1) others)
-ahead_at first others i d lt rise k e up =
-    let there : (i + 1) + k < length others = omega (arith, up, length-drop (i + 1) others) in
-    let pair : EndsBefore (get_or others i e) (get_or others ((i + 1) + k) e) = rise (suc i) (suc ((i + 1) + k)) e (omega arith) (omega arith) in
-    rw (get_or-drop, get_or_default others i d e lt) pair
+-- the first of ordered runs, joined: all later ones lie behind them
+pub record AreJoined (sorted : List PageRun) (done : ℕ) (runs : List PageRun) : Type 0 where
+  pub maximal : AreMaximalRuns (state_in (take done sorted)) runs
+  pub below : (k : ℕ) (d : PageRun) → done ≤ k → k < length sorted → AreBelow (get_or sorted k d).pages.first runs
 
--- the runs seen so far, and one more
-pub seen_more : (first : PageRun) (others : List PageRun) (i : ℕ) (d : PageRun) → i < length others → first ∷ take (i + 1) others ≡ (first ∷ take i others) ++ get_or others i d ∷ []
-seen_more first others i d lt = ap (λ (xs : List PageRun). first ∷ xs) (take_more others i d lt)
+-- they are maximal by their own states
+pub by_itself : (sorted : List PageRun) (done : ℕ) (runs : List PageRun) → AreJoined sorted done runs → AreMaximalRuns (state_in runs) runs
+by_itself sorted done runs are = record { each = λ page. refl; some = are.maximal.some; rise = are.maximal.rise }
 
--- what is known of the next one
-pub here : (others : List PageRun) (last : PageRun) (i : ℕ) (d : PageRun) → i < length others → All (EndsBefore last) (drop i others) → run_end last ≤ (get_or others i d).pages.first
-here others last i d lt ahead =
-    let one : EndsBefore last (get_or (drop i others) 0 d) = ahead 0 d (omega (arith, length-drop i others)) in
-    let at : get_or (drop i others) 0 d ≡ get_or others i d = get_or-drop i others 0 d ∙ ap (λ (k : ℕ). get_or others k d) (omega arith) in
-    subst (λ (r : PageRun). run_end last ≤ r.pages.first) at one
+pub none_joined : (sorted : List PageRun) → AreJoined sorted 0 []
+none_joined sorted = record { maximal = no_runs; below = λ k d le lt i e h. absurd (omega (arith, h)) }
+
+pub one_joined : (sorted : List PageRun) (done : ℕ) (old new : List PageRun) (d : PageRun) → done < length sorted → AreOrdered sorted
+    → AreJoined sorted done old → IsPushed old (get_or sorted done d) new → AreJoined sorted (done + 1) new
+one_joined sorted done old new d lt ordered are pushed =
+    let next = get_or sorted done d in
+    record {
+      maximal = record {
+        each = λ page.
+            pushed.maximal.each page
+            ∙ state_push old next page
+            ∙ ap (λ (o : Option PageState). option_or o (cond (run_holds page next) (Some next.state) None)) (are.maximal.each page)
+            ∙ sym (state_push (take done sorted) next page)
+            ∙ sym (ap (λ (xs : List PageRun). state_in xs page) (take_more sorted done d lt));
+        some = pushed.maximal.some;
+        rise = pushed.maximal.rise;
+      };
+      below = λ k e le lt' i x h.
+          (let pair : run_end next ≤ (get_or sorted k d).pages.first = ordered.rise done k d (omega (arith, le)) lt' in
+          let later : run_end next ≤ (get_or sorted k e).pages.first = subst (λ (r : PageRun). run_end next ≤ r.pages.first) (get_or_default sorted k d e lt') pair in
+          omega (arith, pushed.below i x h, later));
+    }

@@ -1,8 +1,8 @@
 use Rattle.std.proofs.Common.{◌≡◌, ◌≢◌, ◌∷◌, ◌++◌, [], refl}
 use Rattle.std.proofs.lemmas.Bool.{false≢true}
 use Rattle.event_core.specs.Runs.{run_end}
-use Rattle.efi_map.proofs.Joining.{pushed_behind, pushed_grown, last_ends}
-use Rattle.efi_map.proofs.ram.push_run.Goals as goal
+use Rattle.guest_map.proofs.Joining.{pushed_behind, pushed_grown, last_ends}
+use Rattle.guest_map.proofs.ram.push_run.Goals as goal
 
 pub returns-then-not-goes_on : goal.returns-then-not-goes_on
 returns-then-not-goes_on c =

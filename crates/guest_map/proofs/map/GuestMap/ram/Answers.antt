@@ -1,7 +1,7 @@
 use Rattle.std.proofs.Common.{◌≡◌, ap, ◌∙◌}
-use Rattle.efi_map.specs.Ram.{ram_of}
-use Rattle.efi_map.proofs.RamOf.{ordered, maximal}
-use Rattle.efi_map.proofs.map.GuestMap.ram.Goals as goal
+use Rattle.guest_map.specs.Ram.{ram_of}
+use Rattle.guest_map.proofs.RamOf.{ordered, maximal}
+use Rattle.guest_map.proofs.map.GuestMap.ram.Goals as goal
 
 pub joined-requires : goal.joined-requires
 joined-requires c =

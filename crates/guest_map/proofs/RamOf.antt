@@ -19,7 +19,7 @@ use Rattle.guest_base.specs.declared.memory.HostRun.{HostRun}
 use Rattle.event_core.specs.declared.boot.Descriptor.{Descriptor}
 use Rattle.event_core.specs.Map.{is_ram, is_unaccepted, holds_page, first_state, descriptor_end, IsDescriptor, AreApart, MapRules}
 use Rattle.event_core.specs.Runs.{run_holds, run_end, state_in, AreMaximalRuns}
-use Rattle.efi_map.specs.Ram.{run_of, ram_of, EndsBefore, AreOrdered}
+use Rattle.guest_map.specs.Ram.{run_of, ram_of, EndsBefore, AreOrdered}
 
 AllPairs-tail : {X : Type 0} (R : X → X → Type 0) (x : X) (xs : List X) → AllPairs R (x ∷ xs) → AllPairs R xs
 AllPairs-tail R x xs pairs i j d lt up = pairs (suc i) (suc j) d (omega arith) (omega arith)
