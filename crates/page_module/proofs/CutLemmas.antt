@@ -10,7 +10,8 @@ use Rattle.guest_base.specs.declared.memory.PageState.{PageState}
 use Rattle.page_module.specs.States.{state_in}
 use Rattle.page_module.specs.Tables.{Rising}
 use Rattle.page_module.specs.Building.{part, cut, run_end, RunEnds}
-use Rattle.page_module.proofs.Tests.{in_range-within, in_range-below, in_range-past, where_is, below, within, past}
+use Rattle.guest_base.proofs.RangeLemmas.{in_range-intro, in_range-below, in_range-past}
+use Rattle.page_module.proofs.RangeCases.{where_is, below, within, past}
 use Rattle.page_module.proofs.JoinLemmas.{state_in-append, end_after}
 
 -- runs that rise
@@ -100,8 +101,8 @@ cut-states pages run page =
               in_range-below run.pages.first (min (run_end run) pages.first - run.pages.first) page v,
             ) refl
             | within v w ↦ rw (
-              in_range-within run.pages.first run.pages.count page v w,
-              in_range-within run.pages.first (min (run_end run) pages.first - run.pages.first) page v (omega arith),
+              in_range-intro run.pages.first run.pages.count page v w,
+              in_range-intro run.pages.first (min (run_end run) pages.first - run.pages.first) page v (omega arith),
             ) refl
             | past v ↦ rw (
               in_range-past run.pages.first run.pages.count page v,
@@ -109,7 +110,7 @@ cut-states pages run page =
             ) refl
           ])
       | within u v ↦ rw (
-        in_range-within pages.first pages.count page u v,
+        in_range-intro pages.first pages.count page u v,
         left-none page u,
         in_range-below (max run.pages.first (pages.first + pages.count)) (run_end run - max run.pages.first (pages.first + pages.count)) page (omega arith),
       ) refl
@@ -120,8 +121,8 @@ cut-states pages run page =
               in_range-below (max run.pages.first (pages.first + pages.count)) (run_end run - max run.pages.first (pages.first + pages.count)) page (omega arith),
             ) refl
             | within v w ↦ rw (
-              in_range-within run.pages.first run.pages.count page v w,
-              in_range-within (max run.pages.first (pages.first + pages.count)) (run_end run - max run.pages.first (pages.first + pages.count)) page (omega arith) (omega arith),
+              in_range-intro run.pages.first run.pages.count page v w,
+              in_range-intro (max run.pages.first (pages.first + pages.count)) (run_end run - max run.pages.first (pages.first + pages.count)) page (omega arith) (omega arith),
             ) refl
             | past v ↦ rw (in_range-past run.pages.first run.pages.count page v, right-none page v) refl
           ])

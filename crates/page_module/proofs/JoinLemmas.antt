@@ -11,7 +11,8 @@ use Rattle.guest_base.specs.declared.memory.PageState.TheVariants.{Pending, Acce
 use Rattle.page_module.specs.States.{state_in}
 use Rattle.page_module.specs.Tables.{same_state, Rising, Differing}
 use Rattle.page_module.specs.Building.{continues, grown, both, joined, run_end, RunEnds}
-use Rattle.page_module.proofs.Tests.{in_range-within, in_range-below, in_range-past, where_is, below, within, past}
+use Rattle.guest_base.proofs.RangeLemmas.{in_range-intro, in_range-below, in_range-past}
+use Rattle.page_module.proofs.RangeCases.{where_is, below, within, past}
 
 pub joined-snoc : (xs : List PageRun) (x r : PageRun) → joined (xs ++ x ∷ []) r ≡ xs ++ both x r
 joined-snoc [] x r = refl
@@ -79,13 +80,13 @@ both-states x r page =
             in_range-below x.pages.first x.pages.count page u,
             in_range-below r.pages.first r.pages.count page (omega arith),
           ) refl
-          | within u v ↦ rw (in_range-within x.pages.first (x.pages.count + r.pages.count) page u (omega arith), in_range-within x.pages.first x.pages.count page u v) refl
+          | within u v ↦ rw (in_range-intro x.pages.first (x.pages.count + r.pages.count) page u (omega arith), in_range-intro x.pages.first x.pages.count page u v) refl
           | past u ↦ elim (where_is r.pages.first r.pages.count page) [
             | below v ↦ absurd (omega arith)
             | within v w ↦ rw (
-              in_range-within x.pages.first (x.pages.count + r.pages.count) page (omega arith) (omega arith),
+              in_range-intro x.pages.first (x.pages.count + r.pages.count) page (omega arith) (omega arith),
               in_range-past x.pages.first x.pages.count page u,
-              in_range-within r.pages.first r.pages.count page v w,
+              in_range-intro r.pages.first r.pages.count page v w,
             ) (ap (λ (s : PageState). Some s) g.same)
             | past v ↦ rw (
               in_range-past x.pages.first (x.pages.count + r.pages.count) page (omega arith),

@@ -1,4 +1,5 @@
-pub mod Tests
+pub mod RangeCases
+pub mod MapLemmas
 pub mod SpanLemmas
 pub mod ScanLemmas
 pub mod SpanWithin

@@ -12,7 +12,8 @@ use Rattle.page_module.specs.Spans.{runs_now, RunsFrom}
 use Rattle.page_module.specs.Tables.{Rising}
 use Rattle.page_module.specs.Building.{part, parts, begins_before, run_end, RunEnds}
 use Rattle.page_module.specs.declared.span.TakenRun.{TakenRun}
-use Rattle.page_module.proofs.Tests.{in_range-within, in_range-below, in_range-past, where_is, below, within, past}
+use Rattle.guest_base.proofs.RangeLemmas.{in_range-intro, in_range-below, in_range-past}
+use Rattle.page_module.proofs.RangeCases.{where_is, below, within, past}
 use Rattle.page_module.proofs.SpanLemmas.{runs-end}
 use Rattle.page_module.proofs.JoinLemmas.{state_in-append, end_after, rising-end}
 use Rattle.page_module.proofs.CutLemmas.{rising-weaker, rising-append, rising-below, rising-past, end_after-append, part-states, part-rises, PartRises, part-few, part-empty}
@@ -33,10 +34,10 @@ parts-states t page a =
         in_range-below t.run.pages.first t.run.pages.count page u,
         in_range-below rest (run_end t.run - rest) page (omega arith),
       ) refl
-      | within u v ↦ rw (in_range-within t.run.pages.first t.accepted page u v) refl
+      | within u v ↦ rw (in_range-intro t.run.pages.first t.accepted page u v) refl
       | past u ↦ rw (in_range-past t.run.pages.first t.accepted page u)
           (elim (cases_lt page (run_end t.run)) [
-            | inl v ↦ rw (in_range-within t.run.pages.first t.run.pages.count page (omega arith) v, in_range-within rest (run_end t.run - rest) page u (omega arith)) refl
+            | inl v ↦ rw (in_range-intro t.run.pages.first t.run.pages.count page (omega arith) v, in_range-intro rest (run_end t.run - rest) page u (omega arith)) refl
             | inr v ↦ rw (in_range-past t.run.pages.first t.run.pages.count page v, in_range-past rest (run_end t.run - rest) page (omega arith)) refl
           ])
     ])
@@ -143,7 +144,7 @@ placed-states first end from page xs ys h k e free =
     ∙ rw (state_in-append (Before first xs) ys page)
     (elim (where_is first (end - first) page) [
       | below u ↦ rw (in_range-below first (end - first) page u, rising-below first page ys k u) outside
-      | within u v ↦ rw (in_range-within first (end - first) page u v)
+      | within u v ↦ rw (in_range-intro first (end - first) page u v)
           (let n = or-none (state_in (Before first xs) page) (state_in (Behind first xs) page) (split-states first from page xs h ∙ free u (omega arith)) in
           rw (n.0, n.1) (or-right (state_in ys page)))
       | past u ↦
@@ -187,12 +188,12 @@ placed-rising first end from (x ∷ xs) ys h k e none before free =
         h.2,
         placed-rising first end (run_end x) xs ys h.3 k e none
             (λ m. elim (cases_lt first (run_end x)) [
-              | inl u ↦ let z = sym (rw (in_range-within x.pages.first x.pages.count first (omega arith) u) refl) ∙ free first (omega arith) m in some-none-order x.state (run_end x) first z
+              | inl u ↦ let z = sym (rw (in_range-intro x.pages.first x.pages.count first (omega arith) u) refl) ∙ free first (omega arith) m in some-none-order x.state (run_end x) first z
               | inr u ↦ u
             ])
             (λ page u v. elim (where_is x.pages.first x.pages.count page) [
               | below w ↦ absurd (omega arith)
-              | within w z ↦ let q = sym (rw (in_range-within x.pages.first x.pages.count page w z) refl) ∙ free page u v in some-none-state x.state q
+              | within w z ↦ let q = sym (rw (in_range-intro x.pages.first x.pages.count page w z) refl) ∙ free page u v in some-none-state x.state q
               | past w ↦ sym (rw (in_range-past x.pages.first x.pages.count page w) refl) ∙ free page u v
             ]),
       )
@@ -202,7 +203,7 @@ placed-rising first end from (x ∷ xs) ys h k e none before free =
           (elim (cases_lt first end) [
             | inl m ↦
                 let behind : end ≤ x.pages.first = elim (cases_lt x.pages.first end) [
-                  | inl u ↦ some-none-order x.state end x.pages.first (sym (rw (in_range-within x.pages.first x.pages.count x.pages.first (omega arith) (omega arith)) refl) ∙ free x.pages.first l u)
+                  | inl u ↦ some-none-order x.state end x.pages.first (sym (rw (in_range-intro x.pages.first x.pages.count x.pages.first (omega arith) (omega arith)) refl) ∙ free x.pages.first l u)
                   | inr u ↦ u
                 ] in
                 let last = ends-before from first ys (before m) in

@@ -12,7 +12,7 @@ use Rattle.page_module.specs.Tables.{Table, Rising, Differing, is_out, without}
 use Rattle.page_module.specs.Building.{parts, joined, places, AllOut, RunEnds}
 use Rattle.page_module.specs.declared.span.TakenRun.{TakenRun}
 use Rattle.page_module.specs.declared.ticket.Ticket.{Ticket}
-use Rattle.page_module.proofs.Tests.{in_range-within}
+use Rattle.guest_base.proofs.RangeLemmas.{in_range-intro}
 use Rattle.page_module.proofs.JoinLemmas.{end_after}
 use Rattle.page_module.proofs.PlaceLemmas.{Before, Behind, placed-states, placed-rising, all-parts-states, all-parts-rising, all-parts-length, split-length, none-taken}
 use Rattle.page_module.proofs.OutLemmas.{out-free, places-without, length-without}
@@ -57,7 +57,7 @@ put-back old next one two new ticket taken out h a o f m e p q r =
     let ys : List PageRun = flat_map parts taken in
     let span = span-rises ticket taken f m in
     let free : (page : ℕ) → first ≤ page → page < end → state_in old page ≡ None =
-    λ page u v. out-free old out ticket a o page (in_range-within first ticket.pages.count page u v) in
+    λ page u v. out-free old out ticket a o page (in_range-intro first ticket.pages.count page u v) in
     let source : List PageRun = (Before first old ++ ys) ++ Behind first old in
     let all : new ≡ fold joined next source =
     r ∙ ap (λ (l : List PageRun). fold joined l (Behind first old))

@@ -12,7 +12,8 @@ use Rattle.page_module.specs.declared.span.TakenRun.{TakenRun}
 use Rattle.page_module.specs.Tables.{Table, Rising, Differing, Apart, run_count}
 use Rattle.page_module.specs.declared.ticket.Ticket.{Ticket}
 use Rattle.page_module.specs.Building.{RunEnds, run_end, cut, common, joined, AllOut}
-use Rattle.page_module.proofs.Tests.{in_range-within, in_range-below, in_range-past, where_is, below, within, past}
+use Rattle.guest_base.proofs.RangeLemmas.{in_range-intro, in_range-below, in_range-past}
+use Rattle.page_module.proofs.RangeCases.{where_is, below, within, past}
 use Rattle.page_module.proofs.CutLemmas.{cuts-length, cuts-rising, cuts-states}
 use Rattle.page_module.proofs.JoinLemmas.{fold-states, fold-rising, fold-differing}
 use Rattle.page_module.proofs.CopyLemmas.{copies-follow, copies-length, copies-states}
@@ -44,7 +45,7 @@ pub may-take : (runs : List PageRun) (pages : Pages) → Rising 0 runs → Diffe
     ((page : ℕ) → in_range pages.first pages.count page ≡ true → state_in runs page ≢ None) → MayTake runs pages
 may-take runs pages h d here =
     let there : (page : ℕ) → pages.first ≤ page → page < pages.first + pages.count → state_in runs page ≢ None =
-    λ page a b. here page (in_range-within pages.first pages.count page a b) in
+    λ page a b. here page (in_range-intro pages.first pages.count page a b) in
     let last : ℕ = pages.first + pages.count - 1 in
     let count : pages.first + pages.count - pages.first ≡ pages.count = omega arith in
     record {

@@ -162,23 +162,12 @@ fn copy_run(run: PageRun, pages: Pages, taken: &mut Vec<TakenRun>)
             first,
             count: end - first,
         };
-        push_taken(
-            taken,
-            PageRun {
-                pages,
-                state: run.state,
-            },
-        );
+        let run = PageRun {
+            pages,
+            state: run.state,
+        };
+        taken.push_reserved(TakenRun { run, accepted: 0 });
     }
-}
-
-fn push_taken(taken: &mut Vec<TakenRun>, run: PageRun)
-    requires { vec_len taken.old < vec_capacity taken.old }
-    ensures items { taken.new.items ≡ taken.old.items ++ record { run = run; accepted = 0 } ∷ [] }
-    ensures len { vec_len taken.new ≡ vec_len taken.old + 1 }
-    ensures capacity { vec_capacity taken.old ≤ vec_capacity taken.new }
-{
-    let _ = taken.push(TakenRun { run, accepted: 0 });
 }
 
 /// Adds a run at the end, where it becomes part of the last one where it goes on in its state.
@@ -191,7 +180,7 @@ fn join(runs: &mut Vec<PageRun>, run: PageRun)
 {
     match runs.pop() {
         Some(last) => push_both(runs, last, run),
-        None => push_run(runs, run),
+        None => runs.push_reserved(run),
     }
 }
 
@@ -204,20 +193,11 @@ fn push_both(runs: &mut Vec<PageRun>, last: PageRun, run: PageRun)
     ensures capacity { vec_capacity runs.old ≤ vec_capacity runs.new }
 {
     if goes_on(last, run) {
-        push_run(runs, with_more(last, run));
+        runs.push_reserved(with_more(last, run));
     } else {
-        push_run(runs, last);
-        push_run(runs, run);
+        runs.push_reserved(last);
+        runs.push_reserved(run);
     }
-}
-
-fn push_run(runs: &mut Vec<PageRun>, run: PageRun)
-    requires { vec_len runs.old < vec_capacity runs.old }
-    ensures items { runs.new.items ≡ runs.old.items ++ run ∷ [] }
-    ensures len { vec_len runs.new ≡ vec_len runs.old + 1 }
-    ensures capacity { vec_capacity runs.old ≤ vec_capacity runs.new }
-{
-    let _ = runs.push(run);
 }
 
 /// Whether a run goes on where another ends, in the same state.

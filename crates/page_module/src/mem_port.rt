@@ -71,7 +71,7 @@ impl MemPort {
             level,
             answer,
         };
-        push_within(&mut self.calls, call);
+        self.calls.push_reserved(call);
     }
 
     /// The call of a kind for all pages of a span, which makes them have a state where its answer is Ok.
@@ -114,16 +114,6 @@ fn mark_if_done(span: &mut Span, pages: Pages, state: PageState, answer: PortAns
     if answer == PortAnswer::Ok {
         span.mark(pages, state);
     }
-}
-
-/// Adds a call at the end.
-fn push_within(calls: &mut Vec<ModuleCall>, call: ModuleCall)
-    requires { vec_len calls.old < vec_capacity calls.old }
-    ensures items { calls.new.items ≡ calls.old.items ++ call ∷ [] }
-    ensures len { vec_len calls.new ≡ vec_len calls.old + 1 }
-    ensures capacity { vec_capacity calls.old ≤ vec_capacity calls.new }
-{
-    let _ = calls.push(call);
 }
 
 impl Port for MemPort {

@@ -112,7 +112,7 @@ impl PageTable {
             runs: count,
             room: self.room - (2 * count + 2),
         };
-        push_ticket(&mut self.out, ticket);
+        self.out.push_reserved(ticket);
         self.kept += 2 * count + ticket.room;
         self.room = 0;
         Span::new(ticket, runs)
@@ -172,13 +172,6 @@ fn renew(runs: &mut Vec<PageRun>, next: &mut Vec<PageRun>)
 {
     mem::swap(runs, next);
     next.clear();
-}
-
-fn push_ticket(out: &mut Vec<Ticket>, ticket: Ticket)
-    requires { vec_len out.old < vec_capacity out.old }
-    ensures { out.new.items ≡ out.old.items ++ ticket ∷ [] }
-{
-    let _ = out.push(ticket);
 }
 
 ghost use Rattle.page_module.specs.Tables.{is_out, without, same_ticket};

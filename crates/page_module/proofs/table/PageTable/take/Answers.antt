@@ -175,12 +175,12 @@ invariant_of-self c =
     record {
       rising = cuts.rising;
       differing = cuts.differing;
-      apart = rw c.push_ticket.ensures
+      apart = rw c.push_reserved.ensures.items
           (all-out-more c.self.inside.runs.items c.renew.new.runs.items c.self.inside.out.items ticket c.self.invariant.apart
           (take-here c.args.self.now c.self.inside.runs.items c.self.inside.out.items c.self.inside.room c.args.pages c.self.view_is c.requires.here) cuts.states);
       next_empty = c.renew.ensures.next;
       spare_empty = ap (λ (v : _). v.items) c.replace-runs.ensures.after ∙ c.new.ensures.items;
-      kept_is = rw (c.push_ticket.ensures, sum) (omega arith);
+      kept_is = rw (c.push_reserved.ensures.items, sum) (omega arith);
       runs_room = omega arith;
       next_room = omega arith;
       spare_room = omega arith;
