@@ -10,10 +10,11 @@ use Rattle.guest_base.specs.declared.memory.Pages.{Pages}
 use Rattle.guest_base.specs.declared.memory.PageRun.{PageRun}
 use Rattle.guest_base.specs.declared.memory.PageState.{PageState}
 use Rattle.guest_base.specs.declared.memory.PageState.TheVariants.{Accepted}
-use Rattle.page_module.specs.States.{state_in}
+use Rattle.event_core.specs.Runs.{state_in}
 use Rattle.page_module.specs.Spans.{runs_now, RunsFrom}
 use Rattle.page_module.specs.Tables.{Rising, Differing, begins_run, run_count, same_or_none, same_state}
-use Rattle.page_module.specs.Building.{common, run_end}
+use Rattle.page_module.specs.Building.{common}
+use Rattle.event_core.specs.Runs.{run_end}
 use Rattle.page_module.specs.declared.span.TakenRun.{TakenRun}
 use Rattle.guest_base.proofs.RangeLemmas.{in_range-intro, in_range-below, in_range-past}
 use Rattle.page_module.proofs.RangeCases.{where_is, below, within, past}

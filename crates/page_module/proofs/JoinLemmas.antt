@@ -8,9 +8,10 @@ use Rattle.guest_base.specs.Ranges.{in_range}
 use Rattle.guest_base.specs.declared.memory.PageRun.{PageRun}
 use Rattle.guest_base.specs.declared.memory.PageState.{PageState}
 use Rattle.guest_base.specs.declared.memory.PageState.TheVariants.{Pending, Accepted, Shared}
-use Rattle.page_module.specs.States.{state_in}
+use Rattle.event_core.specs.Runs.{state_in}
 use Rattle.page_module.specs.Tables.{same_state, Rising, Differing}
-use Rattle.page_module.specs.Building.{continues, grown, both, joined, run_end, RunEnds}
+use Rattle.page_module.specs.Building.{continues, grown, both, joined, RunEnds}
+use Rattle.event_core.specs.Runs.{run_end}
 use Rattle.guest_base.proofs.RangeLemmas.{in_range-intro, in_range-below, in_range-past}
 use Rattle.page_module.proofs.RangeCases.{where_is, below, within, past}
 
@@ -22,9 +23,7 @@ joined-snoc (y ∷ z ∷ zs) x r = ap (λ (l : List PageRun). y ∷ l) (joined-s
 pub state_in-append : (xs ys : List PageRun) (page : ℕ) → state_in (xs ++ ys) page ≡ option_or (state_in xs page) (state_in ys page)
 state_in-append [] ys page = refl
 state_in-append (x ∷ xs) ys page =
-    elim (in_range x.pages.first x.pages.count page) as
-    (λ b. (if b then Some x.state else state_in (xs ++ ys) page) ≡ option_or (if b then Some x.state else state_in xs page) (state_in ys page))
-    [ true ↦ refl | false ↦ state_in-append xs ys page ]
+    elim (cases_Bool (in_range x.pages.first x.pages.count page)) [ inl t ↦ rw t refl | inr f ↦ rw f (state_in-append xs ys page) ]
 
 pub same_state-true : (a b : PageState) → same_state a b ≡ true → a ≡ b
 same_state-true Pending Pending e = refl
@@ -100,7 +99,7 @@ joined-states : (xs : List PageRun) (r : PageRun) (page : ℕ) → state_in (joi
 joined-states [] r page = refl
 joined-states (x ∷ []) r page = both-states x r page
 joined-states (x ∷ y ∷ ys) r page =
-    ap (λ (o : Option PageState). if in_range x.pages.first x.pages.count page then Some x.state else o) (joined-states (y ∷ ys) r page)
+    elim (cases_Bool (in_range x.pages.first x.pages.count page)) [ inl t ↦ rw t refl | inr f ↦ rw f (joined-states (y ∷ ys) r page) ]
 
 -- writing runs anew changes no state
 pub fold-states : (acc xs : List PageRun) (page : ℕ) → state_in (fold joined acc xs) page ≡ state_in (acc ++ xs) page

@@ -7,10 +7,11 @@ use Rattle.guest_base.specs.Ranges.{in_range}
 use Rattle.guest_base.specs.declared.memory.PageRun.{PageRun}
 use Rattle.guest_base.specs.declared.memory.PageState.{PageState}
 use Rattle.guest_base.specs.declared.memory.PageState.TheVariants.{Accepted}
-use Rattle.page_module.specs.States.{state_in}
+use Rattle.event_core.specs.Runs.{state_in}
 use Rattle.page_module.specs.Spans.{runs_now, RunsFrom}
 use Rattle.page_module.specs.Tables.{Rising}
-use Rattle.page_module.specs.Building.{part, parts, begins_before, run_end, RunEnds}
+use Rattle.page_module.specs.Building.{part, parts, begins_before, RunEnds}
+use Rattle.event_core.specs.Runs.{run_end}
 use Rattle.page_module.specs.declared.span.TakenRun.{TakenRun}
 use Rattle.guest_base.proofs.RangeLemmas.{in_range-intro, in_range-below, in_range-past}
 use Rattle.page_module.proofs.RangeCases.{where_is, below, within, past}
@@ -47,13 +48,9 @@ all-parts-states first end page [] h = refl
 all-parts-states first end page (t ∷ rs) h =
     state_in-append (parts t) (flat_map parts rs) page
     ∙ rw (parts-states t page h.2, all-parts-states (first + t.run.pages.count) end page rs h.3)
-    (elim (in_range t.run.pages.first t.accepted page) as
-    (λ b. option_or (if b then Some Accepted else (if in_range t.run.pages.first t.run.pages.count page then Some t.run.state else None)) (state_in (runs_now rs) page)
-    ≡ (if b then Some Accepted else (if in_range t.run.pages.first t.run.pages.count page then Some t.run.state else state_in (runs_now rs) page))) [
-      | true ↦ refl
-      | false ↦ elim (in_range t.run.pages.first t.run.pages.count page) as
-          (λ b. option_or (if b then Some t.run.state else None) (state_in (runs_now rs) page) ≡ (if b then Some t.run.state else state_in (runs_now rs) page))
-          [ true ↦ refl | false ↦ refl ]
+    (elim (cases_Bool (in_range t.run.pages.first t.accepted page)) [
+      | inl a ↦ rw a refl
+      | inr a ↦ elim (cases_Bool (in_range t.run.pages.first t.run.pages.count page)) [ inl b ↦ rw (a, b) refl | inr b ↦ rw (a, b) refl ]
     ])
 
 -- the runs of a span rise, and end where it ends
@@ -123,9 +120,10 @@ split-states first from page [] h = refl
 split-states first from page (x ∷ xs) h =
     elim (cases_lt x.pages.first first) [
       | inl l ↦ rw (lt-ltb x.pages.first first l)
-          (elim (in_range x.pages.first x.pages.count page) as
-          (λ b. option_or (if b then Some x.state else state_in (Before first xs) page) (state_in (Behind first xs) page) ≡ (if b then Some x.state else state_in xs page))
-          [ true ↦ refl | false ↦ split-states first (run_end x) page xs h.3 ])
+          (elim (cases_Bool (in_range x.pages.first x.pages.count page)) [
+            | inl t ↦ rw t refl
+            | inr f ↦ rw f (split-states first (run_end x) page xs h.3)
+          ])
       | inr l ↦
           let r = all-behind first x.pages.first (x ∷ xs) (omega arith, h.1, h.2, h.3) l in
           rw (r.0, r.1) refl

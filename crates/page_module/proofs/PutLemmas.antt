@@ -6,7 +6,7 @@ use Rattle.std.proofs.lemmas.Grind.{fold-append}
 use Rattle.guest_base.specs.Ranges.{in_range}
 use Rattle.guest_base.specs.declared.memory.PageRun.{PageRun}
 use Rattle.guest_base.specs.declared.memory.PageState.{PageState}
-use Rattle.page_module.specs.States.{state_in}
+use Rattle.event_core.specs.Runs.{state_in}
 use Rattle.page_module.specs.Spans.{Taken, runs_now, RunsFrom}
 use Rattle.page_module.specs.Tables.{Table, Rising, Differing, is_out, without}
 use Rattle.page_module.specs.Building.{parts, joined, places, AllOut, RunEnds}

@@ -8,7 +8,8 @@ use Rattle.guest_base.specs.Ranges.{in_range}
 use Rattle.guest_base.specs.declared.memory.Pages.{Pages}
 use Rattle.guest_base.specs.declared.memory.PageState.{PageState}
 use Rattle.guest_base.specs.declared.memory.PageState.TheVariants.{Pending, Accepted}
-use Rattle.page_module.specs.States.{state_in, AllIn}
+use Rattle.event_core.specs.Runs.{state_in}
+use Rattle.page_module.specs.States.{AllIn}
 use Rattle.page_module.specs.Spans.{Taken, runs_now, RunsFrom, BeginsPending, Becomes}
 use Rattle.page_module.specs.declared.ticket.Ticket.{Ticket}
 use Rattle.page_module.specs.Marking.{EndsInMemory, all_in_state, accepted_in, rest_first}
@@ -55,9 +56,7 @@ pub state-head : (t : TakenRun) (rs : List TakenRun) (page : ℕ) → in_range t
     t.accepted ≤ t.run.pages.count →
     state_in (runs_now (t ∷ rs)) page ≡ Some (state_here t page)
 state-head t rs page i a =
-    rw i
-    (elim (in_range t.run.pages.first t.accepted page) as
-    (λ b. (if b then Some Accepted else Some t.run.state) ≡ Some (if b then Accepted else t.run.state)) [ true ↦ refl | false ↦ refl ])
+    (elim (cases_Bool (in_range t.run.pages.first t.accepted page)) [ inl u ↦ rw (i, u) refl | inr u ↦ rw (i, u) refl ])
 
 pub state-tail : (t : TakenRun) (rs : List TakenRun) (page : ℕ) → t.run.pages.first + t.run.pages.count ≤ page →
     t.accepted ≤ t.run.pages.count →

@@ -6,12 +6,13 @@ use Rattle.guest_base.specs.Ranges.{in_range}
 use Rattle.guest_base.specs.declared.memory.Pages.{Pages}
 use Rattle.guest_base.specs.declared.memory.PageRun.{PageRun}
 use Rattle.guest_base.specs.declared.memory.PageState.{PageState}
-use Rattle.page_module.specs.States.{state_in}
+use Rattle.event_core.specs.Runs.{state_in}
 use Rattle.page_module.specs.Spans.{runs_now, RunsFrom}
 use Rattle.page_module.specs.declared.span.TakenRun.{TakenRun}
 use Rattle.page_module.specs.Tables.{Table, Rising, Differing, Apart, run_count}
 use Rattle.page_module.specs.declared.ticket.Ticket.{Ticket}
-use Rattle.page_module.specs.Building.{RunEnds, run_end, cut, common, joined, AllOut}
+use Rattle.page_module.specs.Building.{RunEnds, cut, common, joined, AllOut}
+use Rattle.event_core.specs.Runs.{run_end}
 use Rattle.guest_base.proofs.RangeLemmas.{in_range-intro, in_range-below, in_range-past}
 use Rattle.page_module.proofs.RangeCases.{where_is, below, within, past}
 use Rattle.page_module.proofs.CutLemmas.{cuts-length, cuts-rising, cuts-states}

@@ -4,14 +4,14 @@ use Rattle.guest_base.specs.Ranges.{in_range}
 use Rattle.guest_base.specs.declared.memory.Pages.{Pages}
 use Rattle.guest_base.specs.declared.memory.PageRun.{PageRun}
 use Rattle.guest_base.specs.declared.memory.PageState.TheVariants.{Accepted}
-use Rattle.page_module.specs.States.{state_in}
+use Rattle.event_core.specs.Runs.{run_end, state_in}
 use Rattle.page_module.specs.Tables.{same_state, Apart}
 use Rattle.page_module.specs.declared.span.TakenRun.{TakenRun}
 use Rattle.page_module.specs.declared.ticket.Ticket.{Ticket}
 
 -- a run goes on where another ends, in the same state
 abbrev pub continues : PageRun → PageRun → Bool
-continues last run = (last.pages.first + last.pages.count == run.pages.first) && same_state last.state run.state
+continues last run = (run_end last == run.pages.first) && same_state last.state run.state
 
 abbrev pub grown : PageRun → PageRun → PageRun
 grown last run = record { pages = record { first = last.pages.first; count = last.pages.count + run.pages.count }; state = last.state }
@@ -29,9 +29,6 @@ joined (first ∷ second ∷ runs) run = first ∷ joined (second ∷ runs) run
 -- the part of a run before some pages, and the part behind them, where there are any
 abbrev pub part : PageRun → ℕ → ℕ → List PageRun
 part run first end = if nat_lt first end then record { pages = record { first = first; count = end - first }; state = run.state } ∷ [] else []
-
-abbrev pub run_end : PageRun → ℕ
-run_end run = run.pages.first + run.pages.count
 
 abbrev pub cut : Pages → PageRun → List PageRun
 cut pages run =
@@ -53,7 +50,7 @@ begins_before first run = nat_lt run.pages.first first
 
 -- a run ends within memory
 abbrev pub RunEnds : PageRun → Type 0
-RunEnds run = run.pages.first + run.pages.count ≤ 2 ^ 28
+RunEnds run = run_end run ≤ 2 ^ 28
 
 -- the runs of a taken run: the pages accepted since, and the rest
 abbrev pub parts : TakenRun → List PageRun

@@ -4,7 +4,8 @@ use Rattle.guest_base.specs.Ranges.{in_range}
 use Rattle.guest_base.specs.declared.memory.Pages.{Pages}
 use Rattle.guest_base.specs.declared.memory.PageState.{PageState}
 use Rattle.guest_base.specs.declared.memory.PageState.TheVariants.{Pending, Accepted, Shared}
-use Rattle.page_module.specs.States.{state_in, AllIn}
+use Rattle.event_core.specs.Runs.{state_in}
+use Rattle.page_module.specs.States.{AllIn}
 use Rattle.page_module.specs.Spans.{Taken}
 use Rattle.page_module.specs.declared.span.TakenRun.{TakenRun}
 

@@ -3,7 +3,8 @@ use Rattle.std.specs.Prelude.{◌≡◌, ◌≢◌, ℕ, ◌+◌, ◌≤◌, ◌
 use Rattle.guest_base.specs.declared.memory.PageRun.{PageRun}
 use Rattle.guest_base.specs.declared.memory.PageState.{PageState}
 use Rattle.guest_base.specs.declared.memory.PageState.TheVariants.{Pending, Accepted}
-use Rattle.page_module.specs.States.{state_in, AllIn, BecomesIn}
+use Rattle.event_core.specs.Runs.{state_in}
+use Rattle.page_module.specs.States.{AllIn, BecomesIn}
 use Rattle.page_module.specs.declared.ticket.Ticket.{Ticket}
 use Rattle.page_module.specs.declared.span.TakenRun.{TakenRun}
 

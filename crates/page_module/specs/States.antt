@@ -1,13 +1,9 @@
 -- The states of pages, by runs of pages of one state.
 use Rattle.std.specs.Prelude.{◌≡◌, ℕ, List, [], ◌∷◌, Option, None, Some, true, if◌then◌else◌}
 use Rattle.guest_base.specs.Ranges.{in_range}
+pub use Rattle.event_core.specs.Runs.{state_in}
 use Rattle.guest_base.specs.declared.memory.PageRun.{PageRun}
 use Rattle.guest_base.specs.declared.memory.PageState.{PageState}
-
--- the state of a page: that of the first run that holds it, none where no run does
-abbrev pub state_in : List PageRun → ℕ → Option PageState
-state_in [] page = None
-state_in (run ∷ runs) page = if in_range run.pages.first run.pages.count page then Some run.state else state_in runs page
 
 -- every page of a range has a state
 abbrev pub AllIn : PageState → List PageRun → ℕ → ℕ → Type 0

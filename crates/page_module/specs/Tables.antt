@@ -7,7 +7,7 @@ use Rattle.guest_base.specs.declared.memory.Pages.{Pages}
 use Rattle.guest_base.specs.declared.memory.PageRun.{PageRun}
 use Rattle.guest_base.specs.declared.memory.PageState.{PageState}
 use Rattle.guest_base.specs.declared.memory.PageState.TheVariants.{Pending, Accepted, Shared}
-use Rattle.page_module.specs.States.{state_in}
+use Rattle.event_core.specs.Runs.{state_in}
 use Rattle.page_module.specs.declared.ticket.Ticket.{Ticket}
 
 -- a page table: the runs of the pages that are in, the tickets of the spans that are out, and the room left, in pieces

@@ -2,7 +2,8 @@
 ghost use Rattle.std.specs.Prelude.{◌≡◌, ◌+◌, ◌*◌, ◌^◌, ◌<◌, ◌≤◌, [], ◌∷◌, ◌++◌, All, IsTrue, length, fold, filter, not, if◌then◌else◌, vec_len, vec_capacity};
 ghost use Rattle.std.specs.List.{flat_map};
 ghost use Rattle.page_module.specs.Tables.{same_state};
-ghost use Rattle.page_module.specs.Building.{continues, grown, both, joined, part, run_end, cut, common, begins_before, parts, RunEnds};
+ghost use Rattle.page_module.specs.Building.{continues, grown, both, joined, part, cut, common, begins_before, parts, RunEnds};
+ghost use Rattle.event_core.specs.Runs.{run_end};
 ghost use Rattle.page_module.specs.Marking.{EndsInMemory};
 
 use crate::span::TakenRun;

@@ -38,7 +38,7 @@ impl Model for Span {
 }
 
 impl Span {
-    ghost use Rattle.page_module.specs.States.{state_in};
+    ghost use Rattle.event_core.specs.Runs.{state_in};
     ghost use Rattle.page_module.specs.Spans.{BeginsPending, Becomes, runs_now, RunsFrom};
     ghost use Rattle.page_module.specs.Marking.{IsFirstPending, NonePending};
 

@@ -2,7 +2,7 @@
 ghost use Rattle.std.specs.Prelude.{◌≡◌, ◌≢◌, ℕ, ◌+◌, ◌*◌, ◌^◌, ◌<◌, ◌≤◌, List, [], ◌∷◌, ◌++◌, Option, Some, None, All, true, length, fold, filter, IfOk, OnOk, if◌then◌else◌, vec_len, vec_capacity};
 ghost use Rattle.std.specs.List.{flat_map};
 ghost use Rattle.guest_base.specs.Ranges.{in_range};
-ghost use Rattle.page_module.specs.States.{state_in};
+ghost use Rattle.event_core.specs.Runs.{state_in};
 
 use crate::building::{copy_runs, cut_out, join_all, join_before, join_behind, join_taken};
 use crate::span::{Span, TakenRun};
