@@ -11,3 +11,4 @@ pub mod PlaceLemmas
 pub mod OutLemmas
 pub mod TableLemmas
 pub mod PutLemmas
+pub mod MaximalLemmas

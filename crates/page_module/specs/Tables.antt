@@ -30,12 +30,6 @@ Differing (run ∷ []) = Unit {0}
 Differing (run ∷ next ∷ runs) =
     (run.pages.first + run.pages.count ≡ next.pages.first → run.state ≢ next.state) × Differing (next ∷ runs)
 
--- these are the maximal runs of one state, rising
-pub record IsMaximal (meant : ℕ → Option PageState) (runs : List PageRun) : Type 0 where
-  pub rising : Rising 0 runs
-  pub differing : Differing runs
-  pub states : (page : ℕ) → state_in runs page ≡ meant page
-
 -- whether two states are the same
 abbrev pub same_state : PageState → PageState → Bool
 same_state Pending Pending = true

@@ -2,7 +2,7 @@
 ghost use Rattle.std.specs.Prelude.{◌≡◌, ◌≢◌, ℕ, ◌+◌, ◌*◌, ◌^◌, ◌<◌, ◌≤◌, List, [], ◌∷◌, ◌++◌, Option, Some, None, All, true, length, fold, filter, IfOk, OnOk, if◌then◌else◌, vec_len, vec_capacity};
 ghost use Rattle.std.specs.List.{flat_map};
 ghost use Rattle.guest_base.specs.Ranges.{in_range};
-ghost use Rattle.event_core.specs.Runs.{state_in};
+ghost use Rattle.event_core.specs.Runs.{state_in, AreMaximalRuns};
 
 use crate::building::{copy_runs, cut_out, join_all, join_before, join_behind, join_taken};
 use crate::span::{Span, TakenRun};
@@ -46,7 +46,7 @@ impl Model for PageTable {
 }
 
 impl PageTable {
-    ghost use Rattle.page_module.specs.Tables.{Rising, IsMaximal, run_count, is_out, without, Apart};
+    ghost use Rattle.page_module.specs.Tables.{Rising, run_count, is_out, without, Apart};
     ghost use Rattle.page_module.specs.declared.ticket.Ticket.{Ticket};
 
     /// The table of these runs, with no room and no page out.
@@ -156,7 +156,7 @@ impl PageTable {
     /// The maximal runs of one state, rising, where no page is out.
     pub fn runs(&self, alloc: Global) -> Result<Runs, AllocError>
         requires { self.now.out ≡ [] }
-        ensures { IfOk result (λ runs. IsMaximal (state_in self.now.runs) runs) }
+        ensures { IfOk result (AreMaximalRuns (state_in self.now.runs)) }
     {
         let runs = Vec::from_slice(alloc, self.runs.as_slice())?;
         Ok(Runs::from_vec(runs))
