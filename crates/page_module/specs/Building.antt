@@ -1,6 +1,7 @@
 -- How the runs of a page table are made.
-use Rattle.std.specs.Prelude.{◌≡◌, ℕ, ◌+◌, ◌-◌, ◌*◌, ◌^◌, ◌≤◌, ◌==◌, ◌&&◌, List, [], ◌∷◌, ◌++◌, Bool, true, None, All, max, min, nat_lt, if◌then◌else◌}
+use Rattle.std.specs.Prelude.{◌≡◌, ℕ, ◌+◌, ◌-◌, ◌*◌, ◌≤◌, ◌==◌, ◌&&◌, List, [], ◌∷◌, ◌++◌, Bool, true, None, All, max, min, nat_lt, if◌then◌else◌}
 use Rattle.guest_base.specs.Ranges.{in_range}
+use Rattle.guest_base.specs.declared.limits.TheConstants.{PAGE_END}
 use Rattle.guest_base.specs.declared.memory.Pages.{Pages}
 use Rattle.guest_base.specs.declared.memory.PageRun.{PageRun}
 use Rattle.guest_base.specs.declared.memory.PageState.TheVariants.{Accepted}
@@ -50,7 +51,7 @@ begins_before first run = nat_lt run.pages.first first
 
 -- a run ends within memory
 abbrev pub RunEnds : PageRun → Type 0
-RunEnds run = run_end run ≤ 2 ^ 28
+RunEnds run = run_end run ≤ PAGE_END
 
 -- the runs of a taken run: the pages accepted since, and the rest
 abbrev pub parts : TakenRun → List PageRun

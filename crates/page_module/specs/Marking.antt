@@ -1,10 +1,11 @@
 -- What becomes of the runs of a span.
-use Rattle.std.specs.Prelude.{◌≢◌, ℕ, ◌+◌, ◌-◌, ◌^◌, ◌≤◌, ◌<◌, List, [], ◌∷◌, Option, None, Some, min, max, nat_lt, not, Bool, true, false, if◌then◌else◌}
+use Rattle.std.specs.Prelude.{◌≢◌, ℕ, ◌+◌, ◌-◌, ◌≤◌, ◌<◌, List, [], ◌∷◌, Option, None, Some, min, max, nat_lt, not, Bool, true, false, if◌then◌else◌}
 use Rattle.guest_base.specs.Ranges.{in_range}
+use Rattle.guest_base.specs.declared.limits.TheConstants.{PAGE_END}
 use Rattle.guest_base.specs.declared.memory.Pages.{Pages}
 use Rattle.guest_base.specs.declared.memory.PageState.{PageState}
 use Rattle.guest_base.specs.declared.memory.PageState.TheVariants.{Pending, Accepted, Shared}
-use Rattle.event_core.specs.Runs.{state_in}
+use Rattle.event_core.specs.Runs.{run_end, state_in}
 use Rattle.page_module.specs.States.{AllIn}
 use Rattle.page_module.specs.Spans.{Taken}
 use Rattle.page_module.specs.declared.span.TakenRun.{TakenRun}
@@ -42,7 +43,7 @@ NonePending span from = (page : ℕ) → from ≤ page → state_in span.runs pa
 
 -- a taken run that ends within memory, of which no more pages were accepted than it has
 abbrev pub EndsInMemory : TakenRun → Type 0
-EndsInMemory taken = (taken.accepted ≤ taken.run.pages.count) × (taken.run.pages.first + taken.run.pages.count ≤ 2 ^ 28)
+EndsInMemory taken = (taken.accepted ≤ taken.run.pages.count) × (run_end taken.run ≤ PAGE_END)
 
 -- whether a state is Pending
 abbrev pub is_pending : PageState → Bool

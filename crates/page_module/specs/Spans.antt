@@ -1,12 +1,19 @@
 -- Pages that are taken out of the page table.
 use Rattle.std.specs.Prelude.{◌≡◌, ◌≢◌, ℕ, ◌+◌, ◌≤◌, ◌<◌, List, [], ◌∷◌, Some}
+use Rattle.guest_base.specs.declared.limits.TheConstants.{PAGE_END}
+use Rattle.guest_base.specs.declared.memory.Pages.{Pages}
 use Rattle.guest_base.specs.declared.memory.PageRun.{PageRun}
 use Rattle.guest_base.specs.declared.memory.PageState.{PageState}
 use Rattle.guest_base.specs.declared.memory.PageState.TheVariants.{Pending, Accepted}
+use Rattle.event_core.specs.Cut.{pages_end}
 use Rattle.event_core.specs.Runs.{state_in}
 use Rattle.page_module.specs.States.{AllIn, BecomesIn}
 use Rattle.page_module.specs.declared.ticket.Ticket.{Ticket}
 use Rattle.page_module.specs.declared.span.TakenRun.{TakenRun}
+
+-- pages, where there are any, end within memory
+abbrev pub LieInMemory : Pages → Type 0
+LieInMemory pages = 0 < pages.count → pages_end pages ≤ PAGE_END
 
 -- a span: which pages it has and by which taking, and their states by runs
 pub record Taken : Type 0 where

@@ -1,13 +1,14 @@
 -- The page table: which pages are in, with their states, and which are out.
-use Rattle.std.specs.Prelude.{◌≡◌, ◌≢◌, ℕ, ◌+◌, ◌-◌, ◌^◌, ◌<◌, ◌≤◌, ◌==◌, ◌&&◌, ◌||◌, List, [], ◌∷◌, Option, None, Some, Bool, true, false, not, if◌then◌else◌}
+use Rattle.std.specs.Prelude.{◌≡◌, ◌≢◌, ℕ, ◌+◌, ◌-◌, ◌<◌, ◌≤◌, ◌==◌, ◌&&◌, ◌||◌, List, [], ◌∷◌, Option, None, Some, Bool, true, false, not, if◌then◌else◌}
 use Rattle.std.specs.List.{list_any}
 use Rattle.guest_base.specs.Ranges.{in_range}
 use Rattle.guest_base.specs.Search.{count_such}
+use Rattle.guest_base.specs.declared.limits.TheConstants.{PAGE_END}
 use Rattle.guest_base.specs.declared.memory.Pages.{Pages}
 use Rattle.guest_base.specs.declared.memory.PageRun.{PageRun}
 use Rattle.guest_base.specs.declared.memory.PageState.{PageState}
 use Rattle.guest_base.specs.declared.memory.PageState.TheVariants.{Pending, Accepted, Shared}
-use Rattle.event_core.specs.Runs.{state_in}
+use Rattle.event_core.specs.Runs.{run_end, state_in}
 use Rattle.page_module.specs.declared.ticket.Ticket.{Ticket}
 
 -- a page table: the runs of the pages that are in, the tickets of the spans that are out, and the room left, in pieces
@@ -20,15 +21,15 @@ pub record Table : Type 0 where
 abbrev pub Rising : ℕ → List PageRun → Type 0
 Rising from [] = Unit {0}
 Rising from (run ∷ runs) =
-    (from ≤ run.pages.first) × (0 < run.pages.count) × (run.pages.first + run.pages.count ≤ 2 ^ 28)
-    × Rising (run.pages.first + run.pages.count) runs
+    (from ≤ run.pages.first) × (0 < run.pages.count) × (run_end run ≤ PAGE_END)
+    × Rising (run_end run) runs
 
 -- runs that touch differ in their states
 abbrev pub Differing : List PageRun → Type 0
 Differing [] = Unit {0}
 Differing (run ∷ []) = Unit {0}
 Differing (run ∷ next ∷ runs) =
-    (run.pages.first + run.pages.count ≡ next.pages.first → run.state ≢ next.state) × Differing (next ∷ runs)
+    (run_end run ≡ next.pages.first → run.state ≢ next.state) × Differing (next ∷ runs)
 
 -- whether two states are the same
 abbrev pub same_state : PageState → PageState → Bool

@@ -1,6 +1,7 @@
 //! How the runs of a page table are written anew.
 ghost use Rattle.std.specs.Prelude.{◌≡◌, ◌+◌, ◌*◌, ◌^◌, ◌<◌, ◌≤◌, [], ◌∷◌, ◌++◌, All, IsTrue, length, fold, filter, not, if◌then◌else◌, vec_len, vec_capacity};
 ghost use Rattle.std.specs.List.{flat_map};
+ghost use Rattle.guest_base.specs.declared.limits.TheConstants.{PAGE_END};
 ghost use Rattle.page_module.specs.Tables.{same_state};
 ghost use Rattle.page_module.specs.Building.{continues, grown, both, joined, part, cut, common, begins_before, parts, RunEnds};
 ghost use Rattle.event_core.specs.Runs.{run_end};
@@ -26,9 +27,12 @@ pub(crate) fn join_all(runs: &[PageRun], next: &mut Vec<PageRun>)
 pub(crate) fn cut_out(runs: &Vec<PageRun>, pages: Pages, next: &mut Vec<PageRun>)
     requires ends { All RunEnds runs.now.items }
     requires pages { 0 < pages.count → pages.first + pages.count < 2 ^ 64 }
-    requires room { vec_len next.old + length (flat_map (cut pages) runs.now.items) ≤ vec_capacity next.old }
-    ensures items { next.new.items ≡ fold joined next.old.items (flat_map (cut pages) runs.now.items) }
-    ensures len { vec_len next.new ≤ vec_len next.old + length (flat_map (cut pages) runs.now.items) }
+    requires room { vec_len next.old + length (flat_map (cut pages) runs.now.items)
+        ≤ vec_capacity next.old }
+    ensures items { next.new.items
+        ≡ fold joined next.old.items (flat_map (cut pages) runs.now.items) }
+    ensures len { vec_len next.new ≤ vec_len next.old
+        + length (flat_map (cut pages) runs.now.items) }
     ensures capacity { vec_capacity next.old ≤ vec_capacity next.new }
 {
     for run in runs {
@@ -53,7 +57,7 @@ fn cut_run(run: PageRun, pages: Pages, next: &mut Vec<PageRun>)
 
 /// Adds the part of a run from a page up to another at the end, where there is one.
 fn join_part(run: PageRun, first: u64, end: u64, next: &mut Vec<PageRun>)
-    requires end { end ≤ 2 ^ 28 }
+    requires end { end ≤ PAGE_END }
     requires room { vec_len next.old + length (part run first end) ≤ vec_capacity next.old }
     ensures items { next.new.items ≡ fold joined next.old.items (part run first end) }
     ensures len { vec_len next.new ≤ vec_len next.old + length (part run first end) }
@@ -77,9 +81,12 @@ fn join_part(run: PageRun, first: u64, end: u64, next: &mut Vec<PageRun>)
 /// Adds the runs that begin before a page at the end.
 pub(crate) fn join_before(runs: &Vec<PageRun>, first: u64, next: &mut Vec<PageRun>)
     requires ends { All RunEnds runs.now.items }
-    requires room { vec_len next.old + length (filter (begins_before first) runs.now.items) ≤ vec_capacity next.old }
-    ensures items { next.new.items ≡ fold joined next.old.items (filter (begins_before first) runs.now.items) }
-    ensures len { vec_len next.new ≤ vec_len next.old + length (filter (begins_before first) runs.now.items) }
+    requires room { vec_len next.old + length (filter (begins_before first) runs.now.items)
+        ≤ vec_capacity next.old }
+    ensures items { next.new.items
+        ≡ fold joined next.old.items (filter (begins_before first) runs.now.items) }
+    ensures len { vec_len next.new ≤ vec_len next.old
+        + length (filter (begins_before first) runs.now.items) }
     ensures capacity { vec_capacity next.old ≤ vec_capacity next.new }
 {
     for run in runs {
@@ -94,7 +101,8 @@ pub(crate) fn join_behind(runs: &Vec<PageRun>, first: u64, next: &mut Vec<PageRu
     requires ends { All RunEnds runs.now.items }
     requires room { vec_len next.old + length (filter (λ run. not (begins_before first run)) runs.now.items) ≤ vec_capacity next.old }
     ensures items { next.new.items ≡ fold joined next.old.items (filter (λ run. not (begins_before first run)) runs.now.items) }
-    ensures len { vec_len next.new ≤ vec_len next.old + length (filter (λ run. not (begins_before first run)) runs.now.items) }
+    ensures len { vec_len next.new ≤ vec_len next.old
+        + length (filter (λ run. not (begins_before first run)) runs.now.items) }
     ensures capacity { vec_capacity next.old ≤ vec_capacity next.new }
 {
     for run in runs {
@@ -107,7 +115,8 @@ pub(crate) fn join_behind(runs: &Vec<PageRun>, first: u64, next: &mut Vec<PageRu
 /// Adds a span's runs at the end.
 pub(crate) fn join_taken(taken: &Vec<TakenRun>, next: &mut Vec<PageRun>)
     requires ends { All EndsInMemory taken.now.items }
-    requires room { vec_len next.old + length (flat_map parts taken.now.items) ≤ vec_capacity next.old }
+    requires room { vec_len next.old + length (flat_map parts taken.now.items)
+        ≤ vec_capacity next.old }
     ensures items { next.new.items ≡ fold joined next.old.items (flat_map parts taken.now.items) }
     ensures len { vec_len next.new ≤ vec_len next.old + length (flat_map parts taken.now.items) }
     ensures capacity { vec_capacity next.old ≤ vec_capacity next.new }
@@ -137,9 +146,11 @@ fn join_parts(taken: TakenRun, next: &mut Vec<PageRun>)
 pub(crate) fn copy_runs(runs: &Vec<PageRun>, pages: Pages, taken: &mut Vec<TakenRun>)
     requires ends { All RunEnds runs.now.items }
     requires pages { 0 < pages.count → pages.first + pages.count < 2 ^ 64 }
-    requires room { vec_len taken.old + length (flat_map (common pages) runs.now.items) ≤ vec_capacity taken.old }
+    requires room { vec_len taken.old + length (flat_map (common pages) runs.now.items)
+        ≤ vec_capacity taken.old }
     ensures items { taken.new.items ≡ taken.old.items ++ flat_map (common pages) runs.now.items }
-    ensures len { vec_len taken.new ≤ vec_len taken.old + length (flat_map (common pages) runs.now.items) }
+    ensures len { vec_len taken.new ≤ vec_len taken.old
+        + length (flat_map (common pages) runs.now.items) }
     ensures capacity { vec_capacity taken.old ≤ vec_capacity taken.new }
 {
     for run in runs {

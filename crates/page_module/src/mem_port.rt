@@ -57,7 +57,9 @@ impl MemPort {
     /// Records a call.
     fn note(&mut self, kind: CallKind, pages: Pages, level: Level, answer: PortAnswer)
         requires { vec_len self.old.calls < vec_capacity self.old.calls }
-        ensures calls { self.new.calls.items ≡ self.old.calls.items ++ record { kind = kind; first = pages.first; count = pages.count; level = level; answer = answer } ∷ [] }
+        ensures calls { self.new.calls.items ≡ self.old.calls.items ++ record {
+            kind = kind; first = pages.first; count = pages.count; level = level; answer = answer
+        } ∷ [] }
         ensures len { vec_len self.new.calls ≡ vec_len self.old.calls + 1 }
         ensures capacity { vec_capacity self.old.calls ≤ vec_capacity self.new.calls }
         ensures faults { self.new.faults ≡ self.old.faults }
@@ -103,7 +105,8 @@ fn answer_without_fault(level: Level, host: Level) -> PortAnswer
 
 /// Gives these pages of the span a state, where the answer is Ok.
 fn mark_if_done(span: &mut Span, pages: Pages, state: PageState, answer: PortAnswer)
-    requires { (pages ≡ span.old.ticket.pages) ⊎ ((state ≡ Accepted) × BeginsPending span.old pages.first pages.count) }
+    requires { (pages ≡ span.old.ticket.pages)
+        ⊎ ((state ≡ Accepted) × BeginsPending span.old pages.first pages.count) }
     ensures { AfterCall state span.old span.new pages.first pages.count answer }
 {
     if answer == PortAnswer::Ok {

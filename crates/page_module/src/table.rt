@@ -1,5 +1,5 @@
 //! The page table.
-ghost use Rattle.std.specs.Prelude.{◌≡◌, ◌≢◌, ℕ, ◌+◌, ◌*◌, ◌^◌, ◌<◌, ◌≤◌, List, [], ◌∷◌, ◌++◌, Option, Some, None, All, true, length, fold, filter, IfOk, OnOk, if◌then◌else◌, vec_len, vec_capacity};
+ghost use Rattle.std.specs.Prelude.{◌≡◌, ◌≢◌, ℕ, ◌+◌, ◌*◌, ◌^◌, ◌<◌, ◌≤◌, List, [], ◌∷◌, ◌++◌, Option, Some, None, All, true, length, fold, filter, IfOk, OnOk, OnErr, if◌then◌else◌, vec_len, vec_capacity};
 ghost use Rattle.std.specs.List.{flat_map};
 ghost use Rattle.guest_base.specs.Ranges.{in_range};
 ghost use Rattle.event_core.specs.Runs.{state_in, AreMaximalRuns};
@@ -46,6 +46,7 @@ impl Model for PageTable {
 }
 
 impl PageTable {
+    ghost use Rattle.page_module.specs.Spans.{LieInMemory};
     ghost use Rattle.page_module.specs.Tables.{Rising, run_count, is_out, without, Apart};
     ghost use Rattle.page_module.specs.declared.ticket.Ticket.{Ticket};
 
@@ -76,6 +77,7 @@ impl PageTable {
         ensures room_kept { self.old.room ≤ self.new.room }
         ensures runs { self.new.runs ≡ self.old.runs }
         ensures out { self.new.out ≡ self.old.out }
+        ensures err { OnErr result (self.new ≡ self.old) }
     {
         if self.room < pieces {
             let places = self.kept.checked_add(pieces).ok_or(AllocError)? as usize;
@@ -93,14 +95,20 @@ impl PageTable {
     /// Of the room, a span needs 2 * r + 2 pieces, r being the number of runs of one state among the pages.
     /// All that is left goes with the span too, and is the table's again when it is put back.
     pub fn take(&mut self, pages: Pages) -> Span
-        requires here { (page : ℕ) → in_range pages.first pages.count page ≡ true → state_in self.old.runs page ≢ None }
+        requires here { (page : ℕ) → in_range pages.first pages.count page ≡ true
+            → state_in self.old.runs page ≢ None }
         requires room { 2 * run_count (state_in self.old.runs) pages + 2 ≤ self.old.room }
         ensures pages { result.ticket.pages ≡ pages }
-        ensures states { (page : ℕ) → state_in result.runs page ≡ (if in_range pages.first pages.count page then state_in self.old.runs page else None) }
-        ensures rest { (page : ℕ) → state_in self.new.runs page ≡ (if in_range pages.first pages.count page then None else state_in self.old.runs page) }
+        ensures states { (page : ℕ) → state_in result.runs page
+            ≡ (if in_range pages.first pages.count page then state_in self.old.runs page else None) }
+        ensures rest { (page : ℕ) → state_in self.new.runs page
+            ≡ (if in_range pages.first pages.count page then None else state_in self.old.runs page) }
         ensures out { self.new.out ≡ self.old.out ++ result.ticket ∷ [] }
         ensures alone { All (λ (other : Ticket). Apart pages other.pages) self.old.out }
-        ensures room { self.old.room ≤ result.ticket.room + (2 * run_count (state_in self.old.runs) pages + 2) }
+        ensures low { LieInMemory pages }
+        ensures room { self.old.room
+            ≤ result.ticket.room + (2 * run_count (state_in self.old.runs) pages + 2) }
+        ensures left { self.new.room ≡ 0 }
     {
         let mut runs = mem::replace(&mut self.spare, Vec::new(self.alloc));
         copy_runs(&self.runs, pages, &mut runs);
@@ -122,7 +130,8 @@ impl PageTable {
     pub fn put(&mut self, span: Span)
         requires { is_out self.old.out span.ticket ≡ true }
         ensures states { (page : ℕ) → state_in self.new.runs page
-            ≡ (if in_range span.ticket.pages.first span.ticket.pages.count page then state_in span.runs page else state_in self.old.runs page) }
+            ≡ (if in_range span.ticket.pages.first span.ticket.pages.count page
+                then state_in span.runs page else state_in self.old.runs page) }
         ensures out { self.new.out ≡ without span.ticket self.old.out }
         ensures room { span.ticket.room ≤ self.new.room }
         ensures room_kept { self.old.room ≤ self.new.room }
