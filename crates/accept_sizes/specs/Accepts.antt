@@ -4,7 +4,7 @@ use Rattle.event_core.specs.declared.module_call.ModuleCall.{ModuleCall}
 use Rattle.event_core.specs.Acceptance.{AcceptanceSteps}
 use Rattle.event_core.specs.Calls.{state_after}
 use Rattle.event_core.specs.MemoryRows.{is_pending}
-use Rattle.page_module.specs.States.{state_in}
+use Rattle.event_core.specs.Runs.{state_in}
 use Rattle.page_module.specs.Spans.{Taken}
 
 -- the pending pages of a span

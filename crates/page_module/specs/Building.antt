@@ -14,8 +14,12 @@ use Rattle.page_module.specs.declared.ticket.Ticket.{Ticket}
 abbrev pub continues : PageRun → PageRun → Bool
 continues last run = (run_end last == run.pages.first) && same_state last.state run.state
 
+-- a run with the pages of the next one, which goes on where it ends
 abbrev pub grown : PageRun → PageRun → PageRun
-grown last run = record { pages = record { first = last.pages.first; count = last.pages.count + run.pages.count }; state = last.state }
+grown last run = record {
+  pages = record { first = last.pages.first; count = last.pages.count + run.pages.count };
+  state = last.state;
+}
 
 -- a run and the next one, which becomes part of it where it goes on in its state
 abbrev pub both : PageRun → PageRun → List PageRun
@@ -29,7 +33,10 @@ joined (first ∷ second ∷ runs) run = first ∷ joined (second ∷ runs) run
 
 -- the part of a run before some pages, and the part behind them, where there are any
 abbrev pub part : PageRun → ℕ → ℕ → List PageRun
-part run first end = if nat_lt first end then record { pages = record { first = first; count = end - first }; state = run.state } ∷ [] else []
+part run first end =
+    if nat_lt first end
+    then record { pages = record { first = first; count = end - first }; state = run.state } ∷ []
+    else []
 
 abbrev pub cut : Pages → PageRun → List PageRun
 cut pages run =
@@ -42,7 +49,11 @@ common pages run =
     let first = max run.pages.first pages.first in
     let end = min (run_end run) (pages.first + pages.count) in
     if nat_lt first end
-    then record { run = record { pages = record { first = first; count = end - first }; state = run.state }; accepted = 0 } ∷ []
+    then
+    record {
+      run = record { pages = record { first = first; count = end - first }; state = run.state };
+      accepted = 0;
+    } ∷ []
     else []
 
 -- whether a run begins before a page
@@ -56,8 +67,9 @@ RunEnds run = run_end run ≤ PAGE_END
 -- the runs of a taken run: the pages accepted since, and the rest
 abbrev pub parts : TakenRun → List PageRun
 parts taken =
-    part (record { pages = taken.run.pages; state = Accepted }) taken.run.pages.first (taken.run.pages.first + taken.accepted)
-    ++ part taken.run (taken.run.pages.first + taken.accepted) (run_end taken.run)
+    let rest = taken.run.pages.first + taken.accepted in
+    part (record { pages = taken.run.pages; state = Accepted }) taken.run.pages.first rest
+    ++ part taken.run rest (run_end taken.run)
 
 -- the places that a table keeps for a span that is out
 abbrev pub places : Ticket → ℕ
@@ -67,5 +79,6 @@ places ticket = 2 * ticket.runs + ticket.room
 abbrev pub AllOut : List PageRun → List Ticket → Type 0
 AllOut runs [] = Unit {0}
 AllOut runs (ticket ∷ out) =
-    ((page : ℕ) → in_range ticket.pages.first ticket.pages.count page ≡ true → state_in runs page ≡ None)
+    ((page : ℕ) → in_range ticket.pages.first ticket.pages.count page ≡ true
+    → state_in runs page ≡ None)
     × All (λ (other : Ticket). Apart ticket.pages other.pages) out × AllOut runs out

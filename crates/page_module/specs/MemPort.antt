@@ -31,10 +31,11 @@ NeverFails port = (failing_of port ≡ []) × (faults_of port ≡ 0)
 abbrev pub fails_next : MemPort → Bool
 fails_next port = fails_at (failing_of port) (length (calls_made port) + 1)
 
--- The answer to a call is Failed exactly where it is one of those that are to fail, else the answer without a fault; each failure
--- is one fault more, and the calls that are to fail stay the same.
+-- The answer to a call is Failed exactly where it is one of those that are to fail, else the answer
+-- without a fault; each failure is one fault more, and the calls that are to fail stay the same.
 pub record FailsAsTold (old new : MemPort) (honest result : PortAnswer) : Type 0 where
   pub answer : result ≡ (if fails_next old then Failed else honest)
-  pub faults : faults_of new ≡ (if fails_next old then raised_by 1 (faults_of old) else faults_of old)
+  pub faults : faults_of new
+      ≡ (if fails_next old then raised_by 1 (faults_of old) else faults_of old)
   pub faults_kept : faults_of old ≤ faults_of new
   pub failing : failing_of new ≡ failing_of old

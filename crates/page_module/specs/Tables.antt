@@ -11,7 +11,8 @@ use Rattle.guest_base.specs.declared.memory.PageState.TheVariants.{Pending, Acce
 use Rattle.event_core.specs.Runs.{run_end, state_in}
 use Rattle.page_module.specs.declared.ticket.Ticket.{Ticket}
 
--- a page table: the runs of the pages that are in, the tickets of the spans that are out, and the room left, in pieces
+-- a page table: the runs of the pages that are in, the tickets of the spans that are out, and the
+-- room left, in pieces
 pub record Table : Type 0 where
   pub runs : List PageRun
   pub out : List Ticket
@@ -45,7 +46,8 @@ same_or_none a b = false
 
 -- whether a run of one state begins at a page, among the pages from a first one on
 abbrev pub begins_run : (ℕ → Option PageState) → ℕ → ℕ → Bool
-begins_run states first page = (page == first) || not (same_or_none (states page) (states (page - 1)))
+begins_run states first page =
+    (page == first) || not (same_or_none (states page) (states (page - 1)))
 
 -- how many runs of one state are among the pages
 abbrev pub run_count : (ℕ → Option PageState) → Pages → ℕ
@@ -54,7 +56,8 @@ run_count states pages = count_such (begins_run states pages.first) pages.first 
 -- whether two tickets are the same
 abbrev pub same_ticket : Ticket → Ticket → Bool
 same_ticket a b =
-    ((a.pages.first == b.pages.first) && (a.pages.count == b.pages.count)) && ((a.runs == b.runs) && (a.room == b.room))
+    ((a.pages.first == b.pages.first) && (a.pages.count == b.pages.count))
+    && ((a.runs == b.runs) && (a.room == b.room))
 
 -- whether a ticket is among those of the spans that are out
 abbrev pub is_out : List Ticket → Ticket → Bool

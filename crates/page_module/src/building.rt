@@ -99,8 +99,11 @@ pub(crate) fn join_before(runs: &Vec<PageRun>, first: u64, next: &mut Vec<PageRu
 /// Adds the runs that begin at a page or behind it at the end.
 pub(crate) fn join_behind(runs: &Vec<PageRun>, first: u64, next: &mut Vec<PageRun>)
     requires ends { All RunEnds runs.now.items }
-    requires room { vec_len next.old + length (filter (λ run. not (begins_before first run)) runs.now.items) ≤ vec_capacity next.old }
-    ensures items { next.new.items ≡ fold joined next.old.items (filter (λ run. not (begins_before first run)) runs.now.items) }
+    requires room { vec_len next.old
+        + length (filter (λ run. not (begins_before first run)) runs.now.items)
+        ≤ vec_capacity next.old }
+    ensures items { next.new.items ≡ fold joined next.old.items
+        (filter (λ run. not (begins_before first run)) runs.now.items) }
     ensures len { vec_len next.new ≤ vec_len next.old
         + length (filter (λ run. not (begins_before first run)) runs.now.items) }
     ensures capacity { vec_capacity next.old ≤ vec_capacity next.new }

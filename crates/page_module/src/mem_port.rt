@@ -58,7 +58,11 @@ impl MemPort {
     fn note(&mut self, kind: CallKind, pages: Pages, level: Level, answer: PortAnswer)
         requires { vec_len self.old.calls < vec_capacity self.old.calls }
         ensures calls { self.new.calls.items ≡ self.old.calls.items ++ record {
-            kind = kind; first = pages.first; count = pages.count; level = level; answer = answer
+          kind = kind;
+          first = pages.first;
+          count = pages.count;
+          level = level;
+          answer = answer;
         } ∷ [] }
         ensures len { vec_len self.new.calls ≡ vec_len self.old.calls + 1 }
         ensures capacity { vec_capacity self.old.calls ≤ vec_capacity self.new.calls }
@@ -78,7 +82,8 @@ impl MemPort {
     /// The call of a kind for all pages of a span, which makes them have a state where its answer is Ok.
     fn call_for_all(&mut self, span: &mut Span, kind: CallKind, state: PageState) -> PortAnswer
         requires room { 0 < room_of self.old }
-        ensures recorded { calls_made self.new ≡ calls_made self.old ++ span_call kind span.old result ∷ [] }
+        ensures recorded { calls_made self.new
+            ≡ calls_made self.old ++ span_call kind span.old result ∷ [] }
         ensures answers { FailsAsTold self.old self.new PortAnswer.Ok result }
         ensures after { AfterCall state span.old span.new span.old.ticket.pages.first
             span.old.ticket.pages.count result }
@@ -140,7 +145,8 @@ impl Port for MemPort {
     fn accept(&mut self, span: &mut Span, at: Page, level: Level, host: Level) -> PortAnswer
         requires room { 0 < room_of self.old }
         requires may { MayAccept span.old at.0 level }
-        ensures recorded { calls_made self.new ≡ calls_made self.old ++ accept_call at.0 level result ∷ [] }
+        ensures recorded { calls_made self.new
+            ≡ calls_made self.old ++ accept_call at.0 level result ∷ [] }
         ensures answers { FailsAsTold self.old self.new (answer_by level host) result }
         ensures after { AfterCall Accepted span.old span.new at.0 (level_pages level) result }
         ensures room_used { room_of self.old ≤ room_of self.new + 1 }
@@ -158,7 +164,8 @@ impl Port for MemPort {
     fn share(&mut self, span: &mut Span) -> PortAnswer
         requires room { 0 < room_of self.old }
         requires accepted { SpanIs Accepted span.old }
-        ensures recorded { calls_made self.new ≡ calls_made self.old ++ span_call Share span.old result ∷ [] }
+        ensures recorded { calls_made self.new
+            ≡ calls_made self.old ++ span_call Share span.old result ∷ [] }
         ensures answers { FailsAsTold self.old self.new PortAnswer.Ok result }
         ensures after { AfterCall Shared span.old span.new span.old.ticket.pages.first
             span.old.ticket.pages.count result }
@@ -170,7 +177,8 @@ impl Port for MemPort {
     fn unshare(&mut self, span: &mut Span) -> PortAnswer
         requires room { 0 < room_of self.old }
         requires shared { SpanIs Shared span.old }
-        ensures recorded { calls_made self.new ≡ calls_made self.old ++ span_call Unshare span.old result ∷ [] }
+        ensures recorded { calls_made self.new
+            ≡ calls_made self.old ++ span_call Unshare span.old result ∷ [] }
         ensures answers { FailsAsTold self.old self.new PortAnswer.Ok result }
         ensures after { AfterCall Pending span.old span.new span.old.ticket.pages.first
             span.old.ticket.pages.count result }
@@ -182,7 +190,8 @@ impl Port for MemPort {
     fn give(&mut self, span: &mut Span) -> PortAnswer
         requires room { 0 < room_of self.old }
         requires accepted { SpanIs Accepted span.old }
-        ensures recorded { calls_made self.new ≡ calls_made self.old ++ span_call Give span.old result ∷ [] }
+        ensures recorded { calls_made self.new
+            ≡ calls_made self.old ++ span_call Give span.old result ∷ [] }
         ensures answers { FailsAsTold self.old self.new PortAnswer.Ok result }
         ensures after { AfterCall Pending span.old span.new span.old.ticket.pages.first
             span.old.ticket.pages.count result }

@@ -60,7 +60,8 @@ impl Span {
     pub(crate) fn into_parts(self) -> (Ticket, Vec<TakenRun>)
         ensures ticket { result.0 ≡ self.ticket }
         ensures states { runs_now result.1.items ≡ self.runs }
-        ensures runs { RunsFrom self.ticket.pages.first (pages_end self.ticket.pages) result.1.items }
+        ensures runs { RunsFrom self.ticket.pages.first (pages_end self.ticket.pages)
+            result.1.items }
         ensures few { length result.1.items ≤ self.ticket.runs }
         ensures ends { LieInMemory self.ticket.pages }
         ensures room { self.ticket.room ≤ vec_capacity result.1 }

@@ -53,7 +53,8 @@ impl PageTable {
     /// The table of these runs, with no room and no page out.
     pub fn new(alloc: Global, runs: &Runs) -> Result<PageTable, AllocError>
         requires { Rising 0 runs.now }
-        ensures states { IfOk result (λ t. (page : ℕ) → state_in t.runs page ≡ state_in runs.now page) }
+        ensures states { IfOk result (λ t. (page : ℕ)
+            → state_in t.runs page ≡ state_in runs.now page) }
         ensures out { IfOk result (λ t. t.out ≡ []) }
     {
         let given = runs.as_slice();
@@ -100,9 +101,11 @@ impl PageTable {
         requires room { 2 * run_count (state_in self.old.runs) pages + 2 ≤ self.old.room }
         ensures pages { result.ticket.pages ≡ pages }
         ensures states { (page : ℕ) → state_in result.runs page
-            ≡ (if in_range pages.first pages.count page then state_in self.old.runs page else None) }
+            ≡ (if in_range pages.first pages.count page
+            then state_in self.old.runs page else None) }
         ensures rest { (page : ℕ) → state_in self.new.runs page
-            ≡ (if in_range pages.first pages.count page then None else state_in self.old.runs page) }
+            ≡ (if in_range pages.first pages.count page
+            then None else state_in self.old.runs page) }
         ensures out { self.new.out ≡ self.old.out ++ result.ticket ∷ [] }
         ensures alone { All (λ (other : Ticket). Apart pages other.pages) self.old.out }
         ensures low { LieInMemory pages }
@@ -131,7 +134,7 @@ impl PageTable {
         requires { is_out self.old.out span.ticket ≡ true }
         ensures states { (page : ℕ) → state_in self.new.runs page
             ≡ (if in_range span.ticket.pages.first span.ticket.pages.count page
-                then state_in span.runs page else state_in self.old.runs page) }
+            then state_in span.runs page else state_in self.old.runs page) }
         ensures out { self.new.out ≡ without span.ticket self.old.out }
         ensures room { span.ticket.room ≤ self.new.room }
         ensures room_kept { self.old.room ≤ self.new.room }
@@ -212,7 +215,10 @@ mod tests {
     use std::test::Fail;
 
     fn run(first: u64, count: u64, state: PageState) -> PageRun
-        ensures { result ≡ record { pages = record { first = first; count = count }; state = state } }
+        ensures { result ≡ record {
+          pages = record { first = first; count = count };
+          state = state;
+        } }
     {
         let pages = Pages { first, count };
         PageRun { pages, state }
