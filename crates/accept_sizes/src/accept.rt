@@ -107,7 +107,8 @@ pub fn accept_run<P: Port>(
         × Accepts hosts.now span.old span.new calls × (stop_of calls ≡ stopped_at result) }
     ensures few { length (P.made port.new)
         ≤ length (P.made port.old) + most_calls_of span.old.ticket.pages.count }
-    ensures room { KeepsRoom (P.made port.old) (P.made port.new) (P.room port.old) (P.room port.new) }
+    ensures room { KeepsRoom (P.made port.old) (P.made port.new)
+        (P.room port.old) (P.room port.new) }
     ensures log_room { KeepsRoom log.old.calls log.new.calls log.old.room log.new.room }
     ensures stopped { stopped_at result ≢ None → Rose (P.faults port.old) (P.faults port.new) }
     ensures faults { P.faults port.old ≤ P.faults port.new }
