@@ -1,5 +1,5 @@
 -- What a page table's calls rest on.
-use Rattle.std.proofs.Common.{◌≡◌, ◌≢◌, ℕ, ◌+◌, ◌-◌, ◌*◌, ◌^◌, ◌<◌, ◌≤◌, List, [], ◌∷◌, ◌++◌, Option, None, All, true, fold, length, if◌then◌else◌, arith, refl, sym, ap, subst, ◌∙◌, inl}
+use Rattle.std.proofs.Common.{◌≡◌, ◌≢◌, ℕ, ◌+◌, ◌-◌, ◌*◌, ◌^◌, ◌<◌, ◌≤◌, List, [], ◌∷◌, Option, None, All, true, fold, length, if◌then◌else◌, arith, refl, sym, ap, subst, ◌∙◌, inl}
 use Rattle.std.specs.List.{flat_map}
 use Rattle.std.proofs.lemmas.List.Elements.{All-nil, All-cons}
 use Rattle.guest_base.specs.Ranges.{in_range}
@@ -7,7 +7,7 @@ use Rattle.guest_base.specs.declared.memory.Pages.{Pages}
 use Rattle.guest_base.specs.declared.memory.PageRun.{PageRun}
 use Rattle.guest_base.specs.declared.memory.PageState.{PageState}
 use Rattle.event_core.specs.Runs.{state_in}
-use Rattle.page_module.specs.Spans.{runs_now, RunsFrom}
+use Rattle.page_module.specs.Spans.{runs_now, RunsFrom, LieInMemory}
 use Rattle.page_module.specs.declared.span.TakenRun.{TakenRun}
 use Rattle.page_module.specs.Tables.{Table, Rising, Differing, Apart, run_count}
 use Rattle.page_module.specs.declared.ticket.Ticket.{Ticket}
@@ -37,7 +37,7 @@ in-memory from page (x ∷ xs) h s =
 -- what holds where pages may be taken
 pub record MayTake (runs : List PageRun) (pages : Pages) : Type 0 where
   pub ends : All RunEnds runs
-  pub memory : 0 < pages.count → pages.first + pages.count ≤ 2 ^ 28
+  pub memory : LieInMemory pages
   pub follow : RunsFrom pages.first (pages.first + pages.count) (flat_map (common pages) runs)
   pub few : length (flat_map (common pages) runs) ≤ run_count (state_in runs) pages
   pub left : length (flat_map (cut pages) runs) ≤ length runs + 1
@@ -62,11 +62,11 @@ pub record TakeFacts (runs : List PageRun) (pages : Pages) (room : ℕ) : Type 0
   pub may : MayTake runs pages
   pub enough : 2 * run_count (state_in runs) pages + 2 ≤ room
 
-pub take-facts : (t : Table) (runs : List PageRun) (out : List Ticket) (room : ℕ) (pages : Pages) →
+pub take-facts : {t : Table} {runs : List PageRun} {out : List Ticket} {room : ℕ} {pages : Pages} →
     (let own : Table = record { runs = runs; out = out; room = room } in own ≡ t) → Rising 0 runs → Differing runs →
     ((page : ℕ) → in_range pages.first pages.count page ≡ true → state_in t.runs page ≢ None) →
     2 * run_count (state_in t.runs) pages + 2 ≤ t.room → TakeFacts runs pages room
-take-facts t runs out room pages e h d here enough =
+take-facts {runs = runs} {room = room} {pages = pages} e h d here enough =
     let P : Table → Type 0 = λ s. ((page : ℕ) → in_range pages.first pages.count page ≡ true → state_in s.runs page ≢ None) →
     2 * run_count (state_in s.runs) pages + 2 ≤ s.room → TakeFacts runs pages room in
     subst P e (λ a b. record { may = may-take runs pages h d a; enough = b }) here enough
@@ -91,10 +91,6 @@ pub cut-out : (old next new : List PageRun) (pages : Pages) → Rising 0 old →
 cut-out old next new pages h e n =
     let b = built next (flat_map (cut pages) old) new e n (cuts-rising pages 0 old h) in
     record { rising = b.rising; differing = b.differing; states = λ page. b.states page ∙ cuts-states pages old page }
-
--- what a span's storage holds: what it gets, and nothing from before
-pub taken-items : (storage spare got taken : List TakenRun) → storage ≡ spare → spare ≡ [] → taken ≡ storage ++ got → taken ≡ got
-taken-items storage spare got taken a b c = c ∙ ap (λ (l : List TakenRun). l ++ got) (a ∙ b)
 
 pub take-here : (t : Table) (runs : List PageRun) (out : List Ticket) (room : ℕ) (pages : Pages) →
     (let own : Table = record { runs = runs; out = out; room = room } in own ≡ t) →

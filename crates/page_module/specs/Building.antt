@@ -1,5 +1,6 @@
 -- How the runs of a page table are made.
-use Rattle.std.specs.Prelude.{◌≡◌, ℕ, ◌+◌, ◌-◌, ◌*◌, ◌≤◌, ◌==◌, ◌&&◌, List, [], ◌∷◌, ◌++◌, Bool, true, None, All, max, min, nat_lt, if◌then◌else◌}
+use Rattle.std.specs.Prelude.{◌≡◌, ℕ, ◌+◌, ◌-◌, ◌*◌, ◌≤◌, ◌==◌, ◌&&◌, List, [], ◌∷◌, ◌++◌, Bool, true, None, All, filter, max, min, nat_lt, not, if◌then◌else◌}
+use Rattle.std.specs.List.{flat_map}
 use Rattle.guest_base.specs.Ranges.{in_range}
 use Rattle.guest_base.specs.declared.limits.TheConstants.{PAGE_END}
 use Rattle.guest_base.specs.declared.memory.Pages.{Pages}
@@ -70,6 +71,12 @@ parts taken =
     let rest = taken.run.pages.first + taken.accepted in
     part (record { pages = taken.run.pages; state = Accepted }) taken.run.pages.first rest
     ++ part taken.run rest (run_end taken.run)
+
+-- a table's runs with those of a span among them, which begin at a page
+abbrev pub placed : ℕ → List PageRun → List TakenRun → List PageRun
+placed first runs taken =
+    (filter (begins_before first) runs ++ flat_map parts taken)
+    ++ filter (λ run. not (begins_before first run)) runs
 
 -- the places that a table keeps for a span that is out
 abbrev pub places : Ticket → ℕ

@@ -1,5 +1,5 @@
 -- The states of pages, by runs of pages of one state.
-use Rattle.std.specs.Prelude.{◌≡◌, ℕ, List, [], ◌∷◌, Option, None, Some, true, if◌then◌else◌}
+use Rattle.std.specs.Prelude.{◌≡◌, ℕ, List, Some, true, if◌then◌else◌}
 use Rattle.guest_base.specs.Ranges.{in_range}
 pub use Rattle.event_core.specs.Runs.{state_in}
 use Rattle.guest_base.specs.declared.memory.PageRun.{PageRun}

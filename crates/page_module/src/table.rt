@@ -1,10 +1,10 @@
 //! The page table.
-ghost use Rattle.std.specs.Prelude.{◌≡◌, ◌≢◌, ℕ, ◌+◌, ◌*◌, ◌^◌, ◌<◌, ◌≤◌, List, [], ◌∷◌, ◌++◌, Option, Some, None, All, true, length, fold, filter, IfOk, OnOk, OnErr, if◌then◌else◌, vec_len, vec_capacity};
+ghost use Rattle.std.specs.Prelude.{◌≡◌, ◌≢◌, ℕ, ◌+◌, ◌*◌, ◌^◌, ◌<◌, ◌≤◌, List, [], ◌∷◌, ◌++◌, Option, Some, None, All, true, length, fold, filter, max, IfOk, OnOk, OnErr, if◌then◌else◌, vec_len, vec_capacity};
 ghost use Rattle.std.specs.List.{flat_map};
 ghost use Rattle.guest_base.specs.Ranges.{in_range};
 ghost use Rattle.event_core.specs.Runs.{state_in, AreMaximalRuns};
 
-use crate::building::{copy_runs, cut_out, join_all, join_before, join_behind, join_taken};
+use crate::building::{copies_of, cut_out, join_all, join_placed};
 use crate::span::{Span, TakenRun};
 use crate::ticket::Ticket;
 use event_core::Runs;
@@ -113,8 +113,8 @@ impl PageTable {
             ≤ result.ticket.room + (2 * run_count (state_in self.old.runs) pages + 2) }
         ensures left { self.new.room ≡ 0 }
     {
-        let mut runs = mem::replace(&mut self.spare, Vec::new(self.alloc));
-        copy_runs(&self.runs, pages, &mut runs);
+        let spare = mem::replace(&mut self.spare, Vec::new(self.alloc));
+        let runs = copies_of(&self.runs, pages, spare);
         cut_out(&self.runs, pages, &mut self.next);
         renew(&mut self.runs, &mut self.next);
         let count = runs.len() as u64;
@@ -124,7 +124,7 @@ impl PageTable {
             room: self.room - (2 * count + 2),
         };
         self.out.push_reserved(ticket);
-        self.kept += 2 * count + ticket.room;
+        self.kept += places_of(ticket);
         self.room = 0;
         Span::new(ticket, runs)
     }
@@ -139,18 +139,12 @@ impl PageTable {
         ensures room { span.ticket.room ≤ self.new.room }
         ensures room_kept { self.old.room ≤ self.new.room }
     {
-        let (ticket, mut runs) = span.into_parts();
+        let (ticket, runs) = span.into_parts();
         remove_ticket(&mut self.out, ticket);
-        join_before(&self.runs, ticket.pages.first, &mut self.next);
-        join_taken(&runs, &mut self.next);
-        join_behind(&self.runs, ticket.pages.first, &mut self.next);
+        join_placed(&self.runs, ticket.pages.first, &runs, &mut self.next);
         renew(&mut self.runs, &mut self.next);
-        self.kept -= 2 * ticket.runs + ticket.room;
-        if self.room < ticket.room {
-            runs.clear();
-            self.spare = runs;
-            self.room = ticket.room;
-        }
+        self.kept -= places_of(ticket);
+        give_back(&mut self.spare, &mut self.room, runs, ticket.room);
     }
 
     /// The state of a page. None exactly where it isn't RAM or is out.
@@ -184,6 +178,33 @@ fn renew(runs: &mut Vec<PageRun>, next: &mut Vec<PageRun>)
 {
     mem::swap(runs, next);
     next.clear();
+}
+
+/// A span's storage and its room are the table's again, where it has no more room of its own.
+fn give_back(spare: &mut Vec<TakenRun>, room: &mut u64, runs: Vec<TakenRun>, given: u64)
+    requires empty { spare.old.items ≡ [] }
+    requires fits { room.old ≤ vec_capacity spare.old }
+    requires given { given ≤ vec_capacity runs }
+    ensures room { room.new ≡ max room.old given }
+    ensures empty { spare.new.items ≡ [] }
+    ensures fits { room.new ≤ vec_capacity spare.new }
+{
+    let mut runs = runs;
+    if *room < given {
+        runs.clear();
+        *spare = runs;
+        *room = given;
+    }
+}
+
+ghost use Rattle.page_module.specs.Building.{places};
+
+/// The places that a table keeps for a span that is out.
+fn places_of(ticket: Ticket) -> u64
+    requires { places ticket < 2 ^ 64 }
+    ensures { result ≡ places ticket }
+{
+    2 * ticket.runs + ticket.room
 }
 
 ghost use Rattle.page_module.specs.Tables.{is_out, without, same_ticket};
