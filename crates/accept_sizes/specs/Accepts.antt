@@ -15,10 +15,10 @@ pending_of span page = is_pending (state_in span.runs page)
 abbrev pub span_end : Taken → ℕ
 span_end span = span.ticket.pages.first + span.ticket.pages.count
 
--- these calls accept the pending pages of a span by sizes, and leave its pages in the states that they
--- make
+-- these calls accept the pending pages of a span by sizes, and leave its pages in the states that
+-- they make
 pub record Accepts (hosts : List HostRun) (old new : Taken) (calls : List ModuleCall) : Type 0 where
   pub steps :
-    AcceptanceSteps hosts (pending_of old) (span_end old) old.ticket.pages.first None calls
+      AcceptanceSteps hosts (pending_of old) (span_end old) old.ticket.pages.first None calls
   pub ticket : new.ticket ≡ old.ticket
   pub states : (page : ℕ) → state_in new.runs page ≡ state_after (state_in old.runs) calls page

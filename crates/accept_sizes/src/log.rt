@@ -19,7 +19,8 @@ impl Model for CallLog {
     ghost Value = { Logged };
 
     ghost view = { λ l. record {
-        calls = l.calls.items; room = vec_capacity l.calls - vec_len l.calls
+      calls = l.calls.items;
+      room = vec_capacity l.calls - vec_len l.calls;
     } };
 }
 
