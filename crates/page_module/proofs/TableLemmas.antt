@@ -1,15 +1,17 @@
 -- What a page table's calls rest on.
-use Rattle.std.proofs.Common.{◌≡◌, ◌≢◌, ℕ, ◌+◌, ◌-◌, ◌*◌, ◌^◌, ◌<◌, ◌≤◌, List, [], ◌∷◌, Option, None, All, true, fold, length, if◌then◌else◌, arith, refl, sym, ap, subst, ◌∙◌, inl}
+use Rattle.std.proofs.Common.{◌≡◌, ◌≢◌, ℕ, ◌+◌, ◌-◌, ◌*◌, ◌<◌, ◌≤◌, List, [], ◌∷◌, Option, None, All, true, fold, length, if◌then◌else◌, arith, refl, sym, ap, subst, ◌∙◌, inl, inr}
 use Rattle.std.specs.List.{flat_map}
 use Rattle.std.proofs.lemmas.List.Elements.{All-nil, All-cons}
+use Rattle.std.proofs.lemmas.Bool.{cases_lt}
 use Rattle.guest_base.specs.Ranges.{in_range}
+use Rattle.guest_base.specs.declared.limits.TheConstants.{PAGE_END}
 use Rattle.guest_base.specs.declared.memory.Pages.{Pages}
 use Rattle.guest_base.specs.declared.memory.PageRun.{PageRun}
 use Rattle.guest_base.specs.declared.memory.PageState.{PageState}
 use Rattle.event_core.specs.Runs.{state_in}
 use Rattle.page_module.specs.Spans.{runs_now, RunsFrom, LieInMemory}
 use Rattle.page_module.specs.declared.span.TakenRun.{TakenRun}
-use Rattle.page_module.specs.Tables.{Table, Rising, Differing, Apart, run_count}
+use Rattle.page_module.specs.Tables.{Table, AreLow, Rising, Differing, Apart, run_count}
 use Rattle.page_module.specs.declared.ticket.Ticket.{Ticket}
 use Rattle.page_module.specs.Building.{RunEnds, cut, common, joined, AllOut}
 use Rattle.event_core.specs.Runs.{run_end}
@@ -25,7 +27,7 @@ rising-ends from [] h = All-nil RunEnds
 rising-ends from (x ∷ xs) h = All-cons RunEnds x xs h.2 (rising-ends (run_end x) xs h.3)
 
 -- a page with a state lies in memory
-in-memory : (from page : ℕ) (xs : List PageRun) → Rising from xs → state_in xs page ≢ None → page < 2 ^ 28
+pub in-memory : (from page : ℕ) (xs : List PageRun) → Rising from xs → state_in xs page ≢ None → page < PAGE_END
 in-memory from page [] h s = absurd (s refl)
 in-memory from page (x ∷ xs) h s =
     elim (where_is x.pages.first x.pages.count page) [
@@ -33,6 +35,27 @@ in-memory from page (x ∷ xs) h s =
       | within u v ↦ let b = h.2 in omega arith
       | past u ↦ in-memory (run_end x) page xs h.3 (λ e. s (rw (in_range-past x.pages.first x.pages.count page u) e))
     ]
+
+-- the same, as a table's value tells it
+pub table-low : (t : Table) (runs : List PageRun) (out : List Ticket) (room : ℕ) →
+    (let own : Table = record { runs = runs; out = out; room = room } in own ≡ t) → Rising 0 runs → AreLow t.runs
+table-low t runs out room e h =
+    let P : Table → Type 0 = λ s. AreLow s.runs in
+    subst P e (λ page some. in-memory 0 page runs h some)
+
+-- pages that all have a state lie within memory
+pub pages-low : (runs : List PageRun) (pages : Pages) → AreLow runs →
+    ((page : ℕ) → in_range pages.first pages.count page ≡ true → state_in runs page ≢ None) → LieInMemory pages
+pages-low runs pages low here some =
+    let last : ℕ = pages.first + pages.count - 1 in
+    let below = low last (here last (in_range-intro pages.first pages.count last (omega arith) (omega arith))) in
+    omega arith
+
+-- there are no more of them than memory has
+pub pages-few : (runs : List PageRun) (pages : Pages) → AreLow runs →
+    ((page : ℕ) → in_range pages.first pages.count page ≡ true → state_in runs page ≢ None) → pages.count ≤ PAGE_END
+pages-few runs pages low here =
+    elim (cases_lt 0 pages.count) [ inl some ↦ let end = pages-low runs pages low here some in omega arith | inr none ↦ omega arith ]
 
 -- what holds where pages may be taken
 pub record MayTake (runs : List PageRun) (pages : Pages) : Type 0 where
@@ -47,17 +70,16 @@ pub may-take : (runs : List PageRun) (pages : Pages) → Rising 0 runs → Diffe
 may-take runs pages h d here =
     let there : (page : ℕ) → pages.first ≤ page → page < pages.first + pages.count → state_in runs page ≢ None =
     λ page a b. here page (in_range-intro pages.first pages.count page a b) in
-    let last : ℕ = pages.first + pages.count - 1 in
     let count : pages.first + pages.count - pages.first ≡ pages.count = omega arith in
     record {
       ends = rising-ends 0 runs h;
-      memory = λ s. let m = in-memory 0 last runs h (there last (omega arith) (omega arith)) in omega arith;
+      memory = pages-low runs pages (λ page some. in-memory 0 page runs h some) here;
       follow = copies-follow pages pages.first 0 runs h (omega arith) (omega arith) (omega arith) there;
       few = rw count at (copies-length pages (state_in runs) pages.first 0 runs h d (omega arith) (omega arith) (omega arith) there (λ page a b. refl) (inl refl));
       left = cuts-length pages 0 runs h;
     }
 
--- the same, as a table's value tells it
+-- the same for a table that has room, as its value tells it
 pub record TakeFacts (runs : List PageRun) (pages : Pages) (room : ℕ) : Type 0 where
   pub may : MayTake runs pages
   pub enough : 2 * run_count (state_in runs) pages + 2 ≤ room

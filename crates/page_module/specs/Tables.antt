@@ -8,7 +8,7 @@ use Rattle.guest_base.specs.declared.memory.Pages.{Pages}
 use Rattle.guest_base.specs.declared.memory.PageRun.{PageRun}
 use Rattle.guest_base.specs.declared.memory.PageState.{PageState}
 use Rattle.guest_base.specs.declared.memory.PageState.TheVariants.{Pending, Accepted, Shared}
-use Rattle.event_core.specs.Runs.{run_end}
+use Rattle.event_core.specs.Runs.{run_end, state_in}
 use Rattle.page_module.specs.declared.ticket.Ticket.{Ticket}
 
 -- a page table: the runs of the pages that are in, the tickets of the spans that are out, and the
@@ -24,6 +24,10 @@ Rising from [] = Unit {0}
 Rising from (run ∷ runs) =
     (from ≤ run.pages.first) × (0 < run.pages.count) × (run_end run ≤ PAGE_END)
     × Rising (run_end run) runs
+
+-- every page that has a state lies within memory
+abbrev pub AreLow : List PageRun → Type 0
+AreLow runs = (page : ℕ) → state_in runs page ≢ None → page < PAGE_END
 
 -- runs that touch differ in their states
 abbrev pub Differing : List PageRun → Type 0

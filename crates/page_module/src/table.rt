@@ -47,7 +47,7 @@ impl Model for PageTable {
 
 impl PageTable {
     ghost use Rattle.page_module.specs.Spans.{LieInMemory};
-    ghost use Rattle.page_module.specs.Tables.{Rising, run_count, is_out, without, Apart};
+    ghost use Rattle.page_module.specs.Tables.{Rising, AreLow, run_count, is_out, without, Apart};
     ghost use Rattle.page_module.specs.declared.ticket.Ticket.{Ticket};
 
     /// The table of these runs, with no room and no page out.
@@ -72,29 +72,44 @@ impl PageTable {
         })
     }
 
-    /// Takes room for `pieces` more pieces. Nothing else changes.
+    /// Takes room for `pieces` more pieces. Nothing else changes. Whatever the answer, all pages of the table
+    /// lie in memory.
     pub fn reserve(&mut self, _alloc: Global, pieces: u64) -> Result<(), AllocError>
         ensures ok { OnOk result (pieces ≤ self.new.room) }
         ensures room_kept { self.old.room ≤ self.new.room }
         ensures runs { self.new.runs ≡ self.old.runs }
         ensures out { self.new.out ≡ self.old.out }
         ensures err { OnErr result (self.new ≡ self.old) }
+        ensures low { AreLow self.old.runs }
     {
         if self.room < pieces {
-            let places = self.kept.checked_add(pieces).ok_or(AllocError)? as usize;
-            self.runs.reserve(places)?;
-            self.next.reserve(self.runs.len() + places)?;
-            self.out.reserve(1)?;
-            self.spare.reserve(pieces as usize)?;
-            self.room = pieces;
+            self.take_room(pieces)
+        } else {
+            Ok(())
         }
+    }
+
+    fn take_room(&mut self, pieces: u64) -> Result<(), AllocError>
+        ensures ok { OnOk result (pieces ≤ self.new.room) }
+        ensures room_kept { self.old.room ≤ self.new.room }
+        ensures runs { self.new.runs ≡ self.old.runs }
+        ensures out { self.new.out ≡ self.old.out }
+        ensures err { OnErr result (self.new ≡ self.old) }
+    {
+        let places = self.kept.checked_add(pieces).ok_or(AllocError)? as usize;
+        self.runs.reserve(places)?;
+        self.next.reserve(self.runs.len() + places)?;
+        self.out.reserve(1)?;
+        self.spare.reserve(pieces as usize)?;
+        self.room = self.room.max(pieces);
         Ok(())
     }
 
     /// Takes pages out, with their states. Every page has to be RAM that isn't out.
     ///
     /// Of the room, a span needs 2 * r + 2 pieces, r being the number of runs of one state among the pages.
-    /// All that is left goes with the span too, and is the table's again when it is put back.
+    /// All that is left goes with the span too, so that the table has none, and is the table's again when it is put
+    /// back.
     pub fn take(&mut self, pages: Pages) -> Span
         requires here { (page : ℕ) → in_range pages.first pages.count page ≡ true
             → state_in self.old.runs page ≢ None }
