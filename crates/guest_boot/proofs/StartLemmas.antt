@@ -63,14 +63,6 @@ ram-rises map hosts table ram rules maximal =
     rising-of 0 ram (recursion_from_All (λ (run : PageRun). 0 < run.pages.count) ram maximal.some)
     (recursion_from_All (λ (run : PageRun). run_end run ≤ 2 ^ 28) ram (ram-ends map hosts table ram rules maximal)) maximal.rise (from_zero ram)
 
-same-found : (b : Bool) (run : PageRun) (rest : Option PageState) (others : Option PageRun) → rest ≡ option_map (λ (r : PageRun). r.state) others → cond b (Some run.state) rest ≡ option_map (λ (r : PageRun). r.state) (cond b (Some run) others)
-same-found true run rest others h = refl
-same-found false run rest others h = h
-
-state-same : (runs : List PageRun) (page : ℕ) → state_in runs page ≡ first_state_of runs page
-state-same [] page = refl
-state-same (run ∷ runs) page = same-found (in_range run.pages.first run.pages.count page) run (state_in runs page) (find (run_holds page) runs) (state-same runs page)
-
 -- ---- the bits
 
 no_bit : (bits : List ℕ) (unit : ℕ) → bits ≡ [] → bit_of bits unit ≡ false
@@ -146,7 +138,7 @@ early-each descriptors hosts (Some table) slots areas cpus boot runs rules plain
 -- what is kept before the first call
 pub first-stands : (boot : Boot) (kept : Kept) → IsBooted boot → ((page : ℕ) → state_in kept.table.runs page ≡ state_in boot.ram page) → kept.table.out ≡ [] → BitsOf boot kept.bits → kept.calls.items ≡ [] → StandsAfter boot [] kept
 first-stands boot kept booted states out bits calls = record {
-  states = λ page. states page ∙ state-same boot.ram page;
+  states = states;
   none_out = out;
   bits = record { same = first-same boot kept.bits bits; set = λ unit. first-set boot kept.bits unit bits ∙ sym (first-bit boot unit booted.some) };
   marks = λ unit page set inside. (let was = sym (first-bit boot unit booted.some) ∙ set in was ∙ sym (ap is_pending (booted.pending unit page was inside)));

@@ -33,7 +33,6 @@ use Rattle.event_core.specs.Next.{Step, next_step, step_of, unrefused_step, refu
 use Rattle.event_core.specs.Legal.{LegalAfter, Whole, with_bytes, with_moved, at_place}
 use Rattle.event_core.specs.Turns.{TakenIn, is_idle, Turned, rounds_of}
 use Rattle.page_module.specs.States.{state_in}
-use Rattle.page_module.specs.Tables.{IsMaximal, Rising, Differing}
 use Rattle.memory_core.specs.Answers.{NoneOpen}
 use Rattle.memory_core.specs.Booted.{IsBooted}
 use Rattle.memory_core.specs.Value.{MemoryValue}
@@ -189,45 +188,9 @@ history-of p scripts first ready is =
 
 -- ---- runs of pages, in the words of the page table and of the history
 
-same-found : (b : Bool) (run : PageRun) (rest : Option PageState) (others : Option PageRun) → rest ≡ option_map (λ (r : PageRun). r.state) others → cond b (Some run.state) rest ≡ option_map (λ (r : PageRun). r.state) (cond b (Some run) others)
-same-found true run rest others h = refl
-same-found false run rest others h = h
-
-pub state-same : (runs : List PageRun) (page : ℕ) → state_in runs page ≡ state_by runs page
-state-same [] page = refl
-state-same (run ∷ runs) page = same-found (in_range run.pages.first run.pages.count page) run (state_in runs page) (find (run_holds page) runs) (state-same runs page)
-
-far-behind : (run : PageRun) (from : ℕ) (runs : List PageRun) → run_end run < from → Rising from runs → All (GoesBefore run) runs
-far-behind run from [] far rising = All-nil (GoesBefore run)
-far-behind run from (next ∷ runs) far rising =
-    let low = rising.0 in
-    let some = rising.1 in
-    All-cons (GoesBefore run) next runs (record { ends = omega arith; differs = λ touch. absurd (omega arith) }) (far-behind run (next.pages.first + next.pages.count) runs (omega arith) rising.3)
-
-all-behind : (run : PageRun) (runs : List PageRun) → Rising (run_end run) runs → Differing (run ∷ runs) → All (GoesBefore run) runs
-all-behind run [] rising differing = All-nil (GoesBefore run)
-all-behind run (next ∷ runs) rising differing =
-    let low = rising.0 in
-    let some = rising.1 in
-    All-cons (GoesBefore run) next runs (record { ends = low; differs = differing.0 }) (far-behind run (next.pages.first + next.pages.count) runs (omega arith) rising.3)
-
-differing-tail : (run : PageRun) (runs : List PageRun) → Differing (run ∷ runs) → Differing runs
-differing-tail run [] d = tt
-differing-tail run (next ∷ runs) d = d.1
-
--- the runs that the table tells are maximal
-pairs-of : (runs : List PageRun) (from : ℕ) → Rising from runs → Differing runs → AllPairs GoesBefore runs
-pairs-of [] from rising differing = λ i j d lt high. absurd (omega arith)
-pairs-of (run ∷ runs) from rising differing =
-    AllPairs-cons GoesBefore run runs (all-behind run runs rising.3 differing) (pairs-of runs (run_end run) rising.3 (differing-tail run runs differing))
-
-some-of : (runs : List PageRun) (from : ℕ) → Rising from runs → All (λ (run : PageRun). 0 < run.pages.count) runs
-some-of [] from rising = All-nil (λ (run : PageRun). 0 < run.pages.count)
-some-of (run ∷ runs) from rising = All-cons (λ (run : PageRun). 0 < run.pages.count) run runs rising.1 (some-of runs (run_end run) rising.3)
-
-pub maximal-of : (states : ℕ → Option PageState) (table runs : List PageRun) → IsMaximal (state_in table) runs → ((page : ℕ) → state_in table page ≡ states page) → AreMaximalRuns states runs
+pub maximal-of : (states : ℕ → Option PageState) (table runs : List PageRun) → AreMaximalRuns (state_in table) runs → ((page : ℕ) → state_in table page ≡ states page) → AreMaximalRuns states runs
 maximal-of states table runs maximal same = record {
-  each = λ page. sym (state-same runs page) ∙ maximal.states page ∙ same page;
-  some = some-of runs 0 maximal.rising;
-  rise = pairs-of runs 0 maximal.rising maximal.differing;
+  each = λ page. maximal.each page ∙ same page;
+  some = maximal.some;
+  rise = maximal.rise;
 }

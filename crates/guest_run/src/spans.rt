@@ -47,7 +47,6 @@ pub(crate) fn accept_span<P: Port>(
     span: &mut Span,
     hosts: &Hosts,
 ) -> Result<(Calls, RunEnd), AllocError>
-    requires few { span.old.ticket.pages.count ≤ 2 ^ 28 }
     ensures accepts { IfOk result (λ r. Accepts hosts.now span.old span.new r.0) }
     ensures stop { IfOk result (λ r. stop_of r.0 ≡ stopped_at r.1) }
     ensures made { IfOk result (λ r. P.made port.new ≡ P.made port.old ++ r.0) }
