@@ -1,12 +1,11 @@
 -- What streams give and take, over several steps.
-use Rattle.std.proofs.Common.{◌≡◌, ℕ, ◌+◌, ◌-◌, ◌<◌, ◌≤◌, List, [], ◌++◌, length, length-append, append_assoc, take, drop, take-append-drop, Option, inl, inr, ap, sym, ◌∙◌, arith}
-use Rattle.std.proofs.lemmas.Bool.{cases_lt}
+use Rattle.std.proofs.Common.{◌≡◌, ℕ, ◌+◌, ◌-◌, ◌≤◌, List, [], ◌++◌, length, length-append, take, drop, take-append-drop, Option, ap, sym, ◌∙◌, arith}
 use Rattle.std.proofs.lemmas.Grind.{common_steps}
 use Rattle.std.proofs.lemmas.List.{take_rest, drop-take}
 use Rattle.std.specs.Io.KnownBytes.{Keeps}
 use Rattle.std.proofs.KnownBytes.{Consumes-nil, Consumes-trans, Consumes-kept}
-use Rattle.guest_base.specs.Counts.{last_count, raised_by, RoseByMoreThan}
-use Rattle.guest_io.specs.Reading.{Gives, GivesAtMost}
+use Rattle.guest_base.specs.Counts.{last_count}
+use Rattle.guest_io.specs.Reading.{Gives}
 
 -- nothing is given at first
 pub Gives-nil : (a : Option (List ℕ)) (n : ℕ) → n ≤ last_count → Gives a a [] n n

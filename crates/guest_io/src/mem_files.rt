@@ -61,7 +61,8 @@ fn find_content<'a>(files: &'a [(String, Vec<u8>)], name: &str) -> &'a [u8]
 impl Files for MemFiles {
     ghost use Rattle.std.specs.Prelude.{◌≡◌, ◌+◌, Some, ◌<◌, ◌≤◌, length, true, if◌then◌else◌, IfOk, IsErrOf, ◌⊎◌, is_ok};
     ghost use Rattle.guest_base.specs.Counts.{raised_by};
-    ghost use Rattle.guest_io.specs.Failing.{fails_at, faults_after};
+    ghost use Rattle.guest_base.specs.Failing.{fails_at};
+    ghost use Rattle.guest_io.specs.Faults.{faults_after};
     ghost use Rattle.guest_io.specs.Reading.{AsksFor};
     ghost use Rattle.guest_io.specs.MemFiles.{content_in, known, names_asked, faults_of, bytes_of, failing_of, calls_of, NeverFails};
 

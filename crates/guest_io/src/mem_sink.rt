@@ -41,7 +41,8 @@ impl Sink for MemSink {
     ghost use Rattle.std.specs.Prelude.{◌≡◌, ◌+◌, ◌≤◌, ◌↔◌, true, OnOk, OnErr, IsErrOf};
     ghost use Rattle.guest_io.specs.Writing.{appended};
     ghost use Rattle.guest_base.specs.Counts.{raised_by};
-    ghost use Rattle.guest_io.specs.Failing.{fails_at, faults_after};
+    ghost use Rattle.guest_base.specs.Failing.{fails_at};
+    ghost use Rattle.guest_io.specs.Faults.{faults_after};
     ghost use Rattle.guest_io.specs.MemSink.{written_in, faults_of, failing_of, calls_of, NeverFails};
 
     ghost written = { written_in };

@@ -1,6 +1,7 @@
 ghost use Rattle.std.specs.Prelude.{◌≡◌, ◌+◌, ◌≤◌};
 ghost use Rattle.guest_base.specs.Counts.{raised_by};
-ghost use Rattle.guest_io.specs.Failing.{fails_at, faults_after};
+ghost use Rattle.guest_base.specs.Failing.{fails_at};
+ghost use Rattle.guest_io.specs.Faults.{faults_after};
 
 /// Which calls of an object in memory fail, with the calls made and the faults so far.
 #[derive(Debug, Drop)]

@@ -123,7 +123,7 @@ fn read_named<R: rt::Files>(
 impl<R: rt::Files> Files for RealFiles<R> {
     ghost use Rattle.std.specs.Prelude.{◌≡◌, ◌+◌, ◌≤◌, length, None, IfOk, IsErrOf};
     ghost use Rattle.guest_base.specs.Counts.{raised_by, RoseByMoreThan};
-    ghost use Rattle.guest_io.specs.Failing.{faults_after};
+    ghost use Rattle.guest_io.specs.Faults.{faults_after};
     ghost use Rattle.guest_io.specs.Reading.{AsksFor, is_failed};
     ghost use Rattle.guest_io.specs.RealFiles.{names_asked, faults_of, bytes_of};
 

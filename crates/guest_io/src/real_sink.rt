@@ -43,7 +43,7 @@ fn write_whole<W: Write>(out: &mut W, bytes: &[u8]) -> bool
 
 impl<R: Print> Sink for RealSink<R> {
     ghost use Rattle.std.specs.Prelude.{◌≡◌, ◌≤◌, None, IsErrOf};
-    ghost use Rattle.guest_io.specs.Failing.{faults_after};
+    ghost use Rattle.guest_io.specs.Faults.{faults_after};
     ghost use Rattle.guest_io.specs.Writing.{is_failed};
     ghost use Rattle.guest_io.specs.RealSink.{faults_of};
 

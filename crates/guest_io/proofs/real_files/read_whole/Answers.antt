@@ -1,4 +1,4 @@
-use Rattle.std.proofs.Common.{◌+◌, ◌++◌, ◌≤◌, length, length-append, arith}
+use Rattle.std.proofs.Common.{◌++◌, length-append, arith}
 use Rattle.guest_io.proofs.StreamLemmas.{Gives-then}
 use Rattle.guest_io.proofs.real_files.read_whole.Goals as goal
 
