@@ -37,7 +37,8 @@ pub record Buddies (kept : ℕ → ℕ → Bool) : Type 0 where
   pub apart : (page order other : ℕ) → kept order (page / 2 ^ order) ≡ true
       → kept other (page / 2 ^ other) ≡ true → order ≡ other
   -- below order 10 no block is kept beside its buddy
-  pub alone : (order number : ℕ) → kept order (2 * number) ≡ true → kept order (2 * number + 1) ≡ true
+  pub alone : (order number : ℕ) → kept order (2 * number) ≡ true
+      → kept order (2 * number + 1) ≡ true
       → 10 ≤ order
 
 -- a block that isn't kept, beside kept blocks none of which holds any of its pages

@@ -5,7 +5,8 @@ use Rattle.guest_base.specs.declared.memory.Block.{Block}
 use Rattle.block_allocator.specs.declared.buddy_block.BuddyBlock.{BuddyBlock}
 use Rattle.block_allocator.specs.Kept.{Rises, Buddies, kept, covers}
 
--- what an allocator holds: its free blocks, its waiting blocks, and how many more of either it has room for
+-- what an allocator holds: its free blocks, its waiting blocks, and how many more of either it has
+-- room for
 pub record State : Type 0 where
   pub free : List BuddyBlock
   pub waiting : List BuddyBlock
@@ -37,20 +38,21 @@ abbrev pub IsLowestWaiting : State → Block → Type 0
 IsLowestWaiting v block =
     (waits v block.first ≡ true) × ((first : ℕ) → waits v first ≡ true → block.first ≤ first)
 
--- all pages of a block of this order were free, and now they aren't; the other pages stay as they were
+-- all pages of a block of this order were free, and now they aren't; other pages stay as they were
 abbrev pub Takes : ℕ → Block → (ℕ → Bool) → (ℕ → Bool) → Type 0
 Takes order block old new =
     ((page : ℕ) → InRange block.first (2 ^ order) page → old page ≡ true)
     × ((page : ℕ) → new page ≡ (old page && not (in_range block.first (2 ^ order) page)))
 
--- a block may be put among the free or the waiting ones: it has an order and a place that blocks have, none of its pages is
--- free, and none waits
+-- a block may be put among the free or the waiting ones: it has an order and a place that blocks
+-- have, none of its pages is free, and none waits
 pub record MayPut (v : State) (block : Block) : Type 0 where
   pub order : block.order ≤ 10
   pub aligned : block.first % 2 ^ block.order ≡ 0
   pub end : block.first + 2 ^ block.order ≤ 2 ^ 28
   pub not_free : (page : ℕ) → InRange block.first (2 ^ block.order) page → is_free v page ≡ false
-  pub not_waiting : (page : ℕ) → InRange block.first (2 ^ block.order) page → page_waits v page ≡ false
+  pub not_waiting : (page : ℕ) → InRange block.first (2 ^ block.order) page
+      → page_waits v page ≡ false
 
 -- the free blocks are kept as buddies are, the waiting ones have order 10, and no page is in both
 pub record IsSound (free waiting : List BuddyBlock) : Type 0 where

@@ -19,9 +19,11 @@ pub fn take_block(free: &mut Vec<BuddyBlock>, order: u32) -> Option<Block>
     ensures buddies { Buddies (kept free.new.items) }
     ensures picked { result ≡ pick (covers free.old.items) order }
     ensures block { IfSome result (IsBlock order) }
-    ensures pages { IfSome result (λ block. Takes order block (covers free.old.items) (covers free.new.items)) }
+    ensures pages { IfSome result (λ block.
+        Takes order block (covers free.old.items) (covers free.new.items)) }
     ensures none { IfNone result (free.new ≡ free.old) }
-    ensures room { vec_len free.new + vec_capacity free.old ≤ vec_len free.old + vec_capacity free.new + 10 }
+    ensures room { vec_len free.new + vec_capacity free.old
+        ≤ vec_len free.old + vec_capacity free.new + 10 }
 {
     let place = place_of(free.as_slice(), BuddyBlock { order, number: 0 });
     if place == free.len() {
@@ -81,7 +83,8 @@ pub fn free_block(free: &mut Vec<BuddyBlock>, block: BuddyBlock)
     ensures buddies { Buddies (kept free.new.items) }
     ensures pages { (page : ℕ) → covers free.new.items page
         ≡ (covers free.old.items page || holds_page page block) }
-    ensures room { vec_len free.new + vec_capacity free.old ≤ vec_len free.old + vec_capacity free.new + 1 }
+    ensures room { vec_len free.new + vec_capacity free.old
+        ≤ vec_len free.old + vec_capacity free.new + 1 }
 {
     let mut block = block;
     while let Some(larger) = merge(free, block) {

@@ -33,7 +33,8 @@ impl Model for Blocks {
     ghost view = { λ a. record {
       free = a.free.items;
       waiting = a.waiting.items;
-      room = min (vec_capacity a.free - vec_len a.free) (vec_capacity a.waiting - vec_len a.waiting);
+      room = min (vec_capacity a.free - vec_len a.free)
+          (vec_capacity a.waiting - vec_len a.waiting);
     } };
 
     ghost invariant = { λ a. IsSound a.free.items a.waiting.items };
@@ -73,7 +74,8 @@ impl Blocks {
         requires room { 10 ≤ self.old.room }
         ensures picked { result ≡ pick (is_free self.old) order }
         ensures block { IfSome result (IsBlock order) }
-        ensures pages { IfSome result (λ block. Takes order block (is_free self.old) (is_free self.new)) }
+        ensures pages { IfSome result (λ block.
+            Takes order block (is_free self.old) (is_free self.new)) }
         ensures none { IfNone result (self.new ≡ self.old) }
         ensures waiting { (first : ℕ) → waits self.new first ≡ waits self.old first }
         ensures apart { Apart self.old }

@@ -25,7 +25,8 @@ module _ {S : Type 0} (fixed : S → Fixed) (part : S → ℕ → Part) (moved :
     pub own_alone : made_by known.number (moved state) ≡ known.own
     pub named : All (λ (m : Moved). m.entry.cpu.0 < known.seats) (moved state)
 
-  -- while a processor held the state, it changed its own part alone, and added its own entries at the end
+  -- while a processor held the state, it changed its own part alone, and added its own entries
+  -- at the end
   pub record MayGive (cpu : ℕ) (taken state : S) : Type 0 where
     pub same_fixed : fixed state ≡ fixed taken
     pub same_others : (other : ℕ) → other ≢ cpu → part state other ≡ part taken other

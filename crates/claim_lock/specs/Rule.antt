@@ -41,23 +41,27 @@ module _ {S : Type 0} where
   abbrev pub holding : Known → S → View S
   holding known state = record { known = known ∷ []; taken = Some state }
 
-  -- the word says of a processor at rest that it does not hold the lock, and of one that holds it that
-  -- it does, since it took the present state
+  -- the word says of a processor at rest that it does not hold the lock, and of one that holds it
+  -- that it does, since it took the present state
   abbrev pub Holds : ℕ → S → ℕ → Option S → Type 0
   Holds word state cpu None = word ≢ cpu + 1
   Holds word state cpu (Some taken) = (word ≡ cpu + 1) × (taken ≡ state)
 
-module _ {S : Type 0} (fixed : S → Fixed) (part : S → ℕ → Part) (moved : S → List Moved) (seats : ℕ) where
+module _ {S : Type 0} (fixed : S → Fixed) (part : S → ℕ → Part) (moved : S → List Moved)
+    (seats : ℕ) where
   -- what is known of a processor at a seat is true, and no other seat has this processor
-  pub record Fits (word : ℕ) (state : S) (owner : ℕ → ℕ) (seat : ℕ) (taken : Option S) (known : Known) : Type 0 where
+  pub record Fits (word : ℕ) (state : S) (owner : ℕ → ℕ) (seat : ℕ) (taken : Option S)
+      (known : Known) : Type 0 where
     pub below : known.number < seats
     pub counted : known.seats ≡ seats
     pub owned : owner known.number ≡ seat
     pub held : Holds word state known.number taken
     pub finds : Finds fixed part moved known state
 
-  -- there is a present state: it is at home where the lock is free, and what each seat knows of it is true
-  pub record Stands (word : ℕ) (home : core.Option (Option S)) (views : List (View S)) : Type 0 where
+  -- there is a present state: it is at home where the lock is free, and what each seat knows
+  -- is true of it
+  pub record Stands (word : ℕ) (home : core.Option (Option S))
+      (views : List (View S)) : Type 0 where
     pub state : S
     pub owner : ℕ → ℕ
     pub bounded : word ≤ seats

@@ -12,8 +12,8 @@ nothing_fixed = record { boot = None; areas = [] }
 abbrev pub numbered : ℕ → Part
 numbered n = record { claim = None; converting = None; out = []; room = n ∷ []; live = [] }
 
--- the pass is there, it is of this lock and the processor's, these are the entries that it made, and it
--- left their number
+-- the pass is there, it is of this lock and the processor's, these are the entries that it made,
+-- and it left their number
 abbrev pub Ready : LockSeen → ℕ → Option PassSeen → List Moved → Type 0
 Ready lock cpu None made = ⊥
 Ready lock cpu (Some pass) made =

@@ -58,7 +58,10 @@ impl<S: Parted> ClaimLock<S> {
         requires entries { S.moved state ≡ [] }
         ensures lock { IfOk result (λ r. r.0.seats ≡ seats) }
         ensures passes { IfOk result (λ r. r.1.items ≡ map
-            (λ cpu. record { table = r.0.table; known = first_known S.fixed S.part seats state cpu })
+            (λ cpu. record {
+              table = r.0.table;
+              known = first_known S.fixed S.part seats state cpu;
+            })
             (range_with_len 0 seats)) }
     {
         let mut passes = Vec::with_capacity(alloc, seats as usize)?;

@@ -168,7 +168,8 @@ fn seated(
     ensures count { IfOk result (λ v. length v.items ≡ length passes.items) }
     ensures ready { IfOk result (λ v. (k : ℕ) (d : _) → k < length v.items
         → ((slice_index_or v.items k d).cpu ≡ k)
-        × Ready lock.now k (slice_index_or v.items k d).pass (slice_index_or v.items k d).made.items) }
+        × Ready lock.now k
+        (slice_index_or v.items k d).pass (slice_index_or v.items k d).made.items) }
 {
     let mut desks = Vec::with_capacity(alloc, passes.len())?;
     let mut cpu = 0;

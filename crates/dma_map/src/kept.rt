@@ -35,7 +35,10 @@ impl Model for Mappings {
 
     ghost Value = { Kept };
 
-    ghost view = { λ m. record { mappings = m.kept.items; room = vec_capacity m.kept - vec_len m.kept } };
+    ghost view = { λ m. record {
+      mappings = m.kept.items;
+      room = vec_capacity m.kept - vec_len m.kept;
+    } };
 
     ghost invariant = { λ m. HasEachOnce m.kept.items };
 }
@@ -97,7 +100,8 @@ impl Mappings {
     /// Whether some kept mapping is of this block.
     pub fn any_in(&self, block: Block) -> bool
         ensures { IsTrue result
-            ↔ ((n : List ℕ) × (live : _) × (live_at self.now n ≡ Some live) × (live.block ≡ block)) }
+            ↔ ((n : List ℕ) × (live : _) × (live_at self.now n ≡ Some live)
+            × (live.block ≡ block)) }
     {
         any_of(self.kept.as_slice(), block)
     }

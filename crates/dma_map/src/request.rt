@@ -12,8 +12,8 @@ use thiserror::Error;
 pub struct TooLong;
 
 /// What a mapping of `len` bytes from the address `addr` on, which ends at 2^40 at most, asks of an area, where it keeps the
-/// bits of the address that `mask` names, 0 or 4095: its place in the first slot, in bytes, the slots, and where they may begin. `TooLong` exactly where these
-/// slots, with the one before them in the page, are more than a segment. After Linux's swiotlb.
+/// bits of the address that `mask` names, 0 or 4095: its place in the first slot, in bytes, the slots, and where they may begin.
+/// `TooLong` exactly where these slots, with the one before them in the page, are more than a segment. After Linux's swiotlb.
 pub fn plan(addr: u64, len: u64, mask: u64) -> Result<Request, TooLong>
     requires some { 0 < len }
     requires inside { addr + len ≤ ADDRESS_END }

@@ -62,7 +62,8 @@ pub trait Files {
             → holds self.old name.now ≡ Some content → bytes ≡ content) }
         ensures within { IfOk result (λ bytes. length bytes ≤ max) }
 
-        ensures failed { IsErrOf result ReadFault.Failed → Rose (faults self.old) (faults self.new) }
+        ensures failed { IsErrOf result ReadFault.Failed
+            → Rose (faults self.old) (faults self.new) }
         ensures too_long { IsErrOf result ReadFault.TooLong → (content : List ℕ)
             → holds self.old name.now ≡ Some content → max < length content }
         ensures too_long_unseen { IsErrOf result ReadFault.TooLong → holds self.old name.now ≡ None

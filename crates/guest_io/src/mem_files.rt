@@ -43,7 +43,8 @@ impl MemFiles {
 
 /// The first entry of this name.
 fn first_named<'a>(files: &'a [(String, Vec<u8>)], name: &str) -> Option<&'a (String, Vec<u8>)>
-    ensures { option_copied result ≡ find (λ file. bytes_eq (string_bytes file.0) name.now) files.now }
+    ensures { option_copied result
+        ≡ find (λ file. bytes_eq (string_bytes file.0) name.now) files.now }
 {
     files.iter().find(|file| file.0.as_str() == name)
 }
@@ -97,7 +98,8 @@ impl Files for MemFiles {
         ensures asks { AsksFor name.now result (names_asked self.old) (names_asked self.new) }
         ensures calls { calls_of self.new ≡ raised_by 1 (calls_of self.old) }
         ensures faults { faults_of self.new
-            ≡ faults_after (fails_at (failing_of self.old) (calls_of self.old + 1)) (faults_of self.old) }
+            ≡ faults_after (fails_at (failing_of self.old) (calls_of self.old + 1))
+            (faults_of self.old) }
         ensures faults_kept { faults_of self.old ≤ faults_of self.new }
         ensures bytes_read { bytes_of self.new
             ≡ (if is_ok result

@@ -64,7 +64,8 @@ impl Sink for MemSink {
         ensures same_failing { failing_of self.new ≡ failing_of self.old }
         ensures calls { calls_of self.new ≡ raised_by 1 (calls_of self.old) }
         ensures faults { faults_of self.new
-            ≡ faults_after (fails_at (failing_of self.old) (calls_of self.old + 1)) (faults_of self.old) }
+            ≡ faults_after (fails_at (failing_of self.old) (calls_of self.old + 1))
+            (faults_of self.old) }
         ensures faults_kept { faults_of self.old ≤ faults_of self.new }
     {
         if self.calls.count() {

@@ -106,7 +106,8 @@ fn read_named<R: rt::Files>(
     bytes_read: &mut u64,
 ) -> Result<Vec<u8>, ReadFault>
     ensures within { IfOk result (λ bytes. vec_len bytes ≤ max) }
-    ensures counts { IfOk result (λ bytes. bytes_read.new ≡ raised_by (vec_len bytes) bytes_read.old) }
+    ensures counts { IfOk result (λ bytes. bytes_read.new
+        ≡ raised_by (vec_len bytes) bytes_read.old) }
     ensures too_long { IsErrOf result ReadFault.TooLong
         → RoseByMoreThan max bytes_read.old bytes_read.new }
     ensures never_falls { bytes_read.old ≤ bytes_read.new }

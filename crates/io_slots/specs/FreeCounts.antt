@@ -1,14 +1,15 @@
 use Rattle.std.specs.Prelude.{ℕ, ◌≡◌, ◌≢◌, ◌+◌, ◌^◌, ◌%◌, ◌<◌, ◌≤◌, ◌==◌, Bool, List, length, slice_index}
 use Rattle.guest_base.specs.declared.limits.TheConstants.{SEGMENT_SLOTS}
 
--- The count of a slot is the length of the free run that begins at it within its segment, 0 where it is used.
+-- The count of a slot is the length of the free run that begins at it within its segment, 0 where
+-- it is used.
 
 -- a slot is used by its count, and so is every number past the end
 abbrev pub zero_at : List ℕ → ℕ → Bool
 zero_at counts k = slice_index counts k == 0
 
--- each free slot that isn't its segment's last counts one more than the next slot, except the slot just before edge; no
--- count passes its segment
+-- each free slot that isn't its segment's last counts one more than the next slot, except the slot
+-- just before edge; no count passes its segment
 pub record IsCountedBut (counts : List ℕ) (edge : ℕ) : Type 0 where
   pub steps : (k : ℕ) → (k + 1) % SEGMENT_SLOTS ≢ 0 → k + 1 ≢ edge → 0 < slice_index counts k
       → slice_index counts k ≡ slice_index counts (k + 1) + 1

@@ -33,7 +33,10 @@ impl Model for Slots {
 
     ghost Value = { SlotUse };
 
-    ghost view = { λ s. record { flags = map (λ count. count == 0) s.counts.items; hint = s.hint } };
+    ghost view = { λ s. record {
+      flags = map (λ count. count == 0) s.counts.items;
+      hint = s.hint;
+    } };
 
     ghost invariant = { λ s. IsKept s.counts.items s.hint };
 }
@@ -59,7 +62,8 @@ impl Slots {
     pub fn fits(&self, need: u32, align: Align) -> Option<u32>
         requires some { 0 < need }
         requires few { need ≤ SEGMENT_SLOTS }
-        ensures { result ≡ choose (is_used self.now) (slot_count self.now) self.now.hint need align }
+        ensures { result
+            ≡ choose (is_used self.now) (slot_count self.now) self.now.hint need align }
     {
         let counts = self.counts.as_slice();
         let last = first_fitting(counts, self.hint, counts.len() as u32, need, align);

@@ -17,7 +17,8 @@ pub fn first_fitting(counts: &[u32], from: u32, to: u32, need: u32, align: Align
     requires some { 0 < need }
     requires small { need ≤ SEGMENT_SLOTS }
     ensures { result
-        ≡ first_such (fits_at (zero_at counts.now) (length counts.now) need align) from (to - from) }
+        ≡ first_such (fits_at (zero_at counts.now) (length counts.now) need align)
+        from (to - from) }
 {
     let mut at = from;
     while at < to {
