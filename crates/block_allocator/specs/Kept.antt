@@ -8,7 +8,9 @@ rank b = b.order * 2 ^ 64 + b.number
 
 -- each block stands before those of a greater rank, and no two have one rank
 abbrev pub Rises : List BuddyBlock → Type 0
-Rises xs = (i j : ℕ) (d : BuddyBlock) → i < j → j < length xs → rank (slice_index_or xs i d) < rank (slice_index_or xs j d)
+Rises xs =
+    (i j : ℕ) (d : BuddyBlock) → i < j → j < length xs
+    → rank (slice_index_or xs i d) < rank (slice_index_or xs j d)
 
 -- whether a block is the one of this order and number
 abbrev pub is_numbered : ℕ → ℕ → BuddyBlock → Bool
@@ -29,11 +31,15 @@ covers xs page = list_any (holds_page page) xs
 -- Blocks that are kept as a buddy allocator keeps them.
 pub record Buddies (kept : ℕ → ℕ → Bool) : Type 0 where
   -- no order is above 10, and no page is beyond 2^28
-  pub form : (order number : ℕ) → kept order number ≡ true → (order ≤ 10) × ((number + 1) * 2 ^ order ≤ 2 ^ 28)
+  pub form : (order number : ℕ) → kept order number ≡ true
+      → (order ≤ 10) × ((number + 1) * 2 ^ order ≤ 2 ^ 28)
   -- a page lies in at most one of them
-  pub apart : (page order other : ℕ) → kept order (page / 2 ^ order) ≡ true → kept other (page / 2 ^ other) ≡ true → order ≡ other
+  pub apart : (page order other : ℕ) → kept order (page / 2 ^ order) ≡ true
+      → kept other (page / 2 ^ other) ≡ true → order ≡ other
   -- below order 10 no block is kept beside its buddy
-  pub alone : (order number : ℕ) → kept order (2 * number) ≡ true → kept order (2 * number + 1) ≡ true → 10 ≤ order
+  pub alone : (order number : ℕ) → kept order (2 * number) ≡ true
+      → kept order (2 * number + 1) ≡ true
+      → 10 ≤ order
 
 -- a block that isn't kept, beside kept blocks none of which holds any of its pages
 pub record Beside (kept_blocks : List BuddyBlock) (b : BuddyBlock) : Type 0 where
