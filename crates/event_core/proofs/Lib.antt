@@ -5,3 +5,5 @@ pub mod SoundLemmas
 pub mod MapLemmas
 pub mod EarlyLemmas
 pub mod BootFacts
+pub mod RisingLemmas
+pub mod LocalLemmas
