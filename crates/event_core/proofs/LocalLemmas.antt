@@ -34,7 +34,7 @@ there-is p history done rest there later m rising is kept stood =
     let pairs : AllPairs Before (map bare (filter p history)) = pairs-map bare Before (filter p history) (AllPairs-filter Before p history rising) in
     sym (split-once Before before-none (map bare (filter p done)) (bare m) (map bare (filter p rest)) there later (subst (AllPairs Before) at pairs) (sym at ∙ stood))
 
-stood-is : (history done rest there : List Moved) (m : Moved) (lists : Lists) → AllPairs Before history → SplitsInto history lists → history ≡ done ++ m ∷ rest → (at : Place) → same_place at m.entry.place ≡ true → StoodBefore lists m there at → there ≡ at_place at done
+stood-is : (history done rest there : List Moved) (m : Moved) (lists : Lists) → AllPairs Before history → SplitsInto history lists → history ≡ done ++ m ∷ rest → (at : Place) → same_place at m.entry.place ≡ true → StoodBefore lists at there m → there ≡ at_place at done
 stood-is history done rest there m lists rising splits is place.Memory same stood =
     there-is (λ n. same_place place.Memory n.entry.place) history done rest there stood.0 m rising is same (sym splits.memory ∙ stood.1)
 stood-is history done rest there m lists rising splits is (place.Area a) same stood =
