@@ -7,3 +7,5 @@ pub mod EarlyLemmas
 pub mod BootFacts
 pub mod RisingLemmas
 pub mod LocalLemmas
+pub mod BlockingLemmas
+pub mod IdleLemmas

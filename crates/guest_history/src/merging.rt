@@ -4,7 +4,7 @@ ghost use Rattle.event_core.specs.declared.entry.Entry.{Entry as EntryValue};
 ghost use Rattle.event_core.specs.Legal.{Legal, Whole, with_moved};
 ghost use Rattle.event_core.specs.Splits.{Lists, SplitsInto};
 ghost use Rattle.event_core.specs.Locally.{Rising, EachFollows};
-ghost use Rattle.event_core.specs.Turns.{entries_by, Turned};
+ghost use Rattle.event_core.specs.Turns.{entries_by, TakenIn, Turned};
 ghost use Rattle.guest_history.specs.Agreeing.{IsBy, AreMadeBy, Agree, AllReplied};
 
 use event_core::{Boot, Entry, EntryLists, Order, Recorded, Scripts};
@@ -44,9 +44,14 @@ pub fn gather(
     })
 }
 
-/// The processors of a run's entries, in their order.
+/// The order of turns that makes a run's entries: their processors, one by one. In these turns no processor is idle, and each takes
+/// the next entry; where the run is whole nobody has a next event behind them. Being out of memory is the only error.
 pub fn order_of(alloc: Global, run: &Recorded) -> Result<Order, AllocError>
-    ensures { IfOk result (λ order. order ≡ map (λ e. e.cpu) run.now.entries) }
+    ensures order { IfOk result (λ order. order ≡ map (λ e. e.cpu) run.now.entries) }
+    ensures taken { Legal run.now.boot run.now.scripts run.now.entries → IfOk result (λ order.
+        TakenIn run.now.boot run.now.scripts [] (map (λ cpu. cpu.0) order) run.now.entries) }
+    ensures turned { Whole run.now.boot run.now.scripts run.now.entries → IfOk result (λ order.
+        Turned run.now.boot run.now.scripts (map (λ cpu. cpu.0) order) run.now.entries) }
 {
     Ok(Items::from_vec(cpus_of(alloc, run.entries.as_slice())?))
 }
