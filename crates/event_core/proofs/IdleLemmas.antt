@@ -1,4 +1,4 @@
-use Rattle.std.proofs.Common.{◌≡◌, ℕ, ◌<◌, ◌≤◌, Bool, true, false, Option, None, Some, List, [], ◌∷◌, ◌++◌, length, map, refl, sym, ◌∙◌, ap, subst, inl, inr, arith, append-nil, slice_get}
+use Rattle.std.proofs.Common.{◌≡◌, ℕ, Bool, true, false, Option, None, Some, List, [], ◌∷◌, ◌++◌, length, map, refl, sym, ◌∙◌, ap, subst, inl, inr, arith, append-nil, slice_get}
 use Rattle.std.specs.Prelude.{is_none}
 use Rattle.std.specs.Option.{option_and_then, option_map}
 use Rattle.std.proofs.lemmas.Bool.{cases_Bool, both_ways}
@@ -28,11 +28,11 @@ use Rattle.event_core.specs.MemoryRows.{claim_event, run_of_claim}
 use Rattle.event_core.specs.BlockRows.{alloc_event, with_pick, without_free, without_waiting}
 use Rattle.event_core.specs.OwnRows.{is_inside, found_at, page_behind, strayed_bytes}
 use Rattle.event_core.specs.Moved.{Moved, entries_of, made_by}
-use Rattle.event_core.specs.Holdings.{Own, Holding, Mapping, block_named, mapping_named}
+use Rattle.event_core.specs.Holdings.{Own, Holding, block_named, mapping_named}
 use Rattle.event_core.specs.Own.{replied, own_of, script_of, present}
 use Rattle.event_core.specs.Refusals.{refusal_of}
 use Rattle.event_core.specs.Next.{Step, claim_reply, alloc_reply, replied_by, accept_step, alloc_step, convert_step, load_step, stray_step, refused_or, unrefused_step, step_of, next_step}
-use Rattle.event_core.specs.Legal.{same_place, at_place, place_of, Follows, LegalAfter, Legal, Whole, with_bytes, with_moved}
+use Rattle.event_core.specs.Legal.{same_place, at_place, place_of, Follows, LegalAfter, Whole, with_bytes, with_moved}
 use Rattle.event_core.specs.Turns.{is_idle, TakenIn, Turned}
 use Rattle.event_core.proofs.SoundLemmas.{same_place-Memory}
 use Rattle.event_core.proofs.BlockingLemmas.{blocked-same}
@@ -72,6 +72,7 @@ pick-in boot memory None = by_waiting (lowest_waiting boot memory) where
   by_flight : (way : Option ℕ) → EventIn boot (without_waiting way)
   by_flight None = refl
   by_flight (Some cpu) = tt
+
   by_waiting : (block : Option Block) → EventIn boot (without_free boot memory block)
   by_waiting (Some block) = claim-in boot memory (Some block) (block_units boot block)
   by_waiting None = by_flight (in_flight_with boot memory)
@@ -117,6 +118,7 @@ loads boot memory others off None s is out = cc
 loads boot memory others off (Some h) s is out = by_inside (is_inside h.block off) is where
   its : List Entry → Bool → Option Step
   its entries inside = elim inside as (λ _. Option Step) [ true ↦ replied_by event.Own (reply.Loaded (row_of h.bytes off 8) None) | false ↦ stray_step boot entries h off ]
+
   by_inside : (inside : Bool) → its memory inside ≡ Some s → is_none (its others inside) ≡ false
   by_inside true is = refl
   by_inside false is = never-in boot (stray_step boot memory h off) (stray_step boot others h off) (stray-in boot memory h off) s is out
@@ -166,8 +168,10 @@ legal-turns boot scripts history (entry ∷ entries) legal =
   where
     turns : List ℕ
     turns = map (λ (e : Entry). e.cpu.0) entries
+
     Made : Type 0
     Made = (entry.cpu.0 ≡ entry.cpu.0) × Follows boot scripts history entry × TakenIn boot scripts (history ++ with_bytes boot scripts history entry ∷ []) turns entries
+
     taken : (idle : Bool) → idle ≡ false → Made → elim idle as (λ _. Type 0) [ true ↦ TakenIn boot scripts history turns (entry ∷ entries) | false ↦ Made ]
     taken true idle made = cc
     taken false idle made = made

@@ -1,24 +1,27 @@
-use Rattle.std.proofs.Common.{◌≡◌, ℕ, Bool, true, List, [], ◌∷◌, ◌++◌, map, refl, sym, ◌∙◌, ap, subst, append_assoc, append-nil, cond}
+use Rattle.std.proofs.Common.{◌≡◌, ℕ, Bool, true, false, List, [], ◌∷◌, ◌++◌, map, length, ◌≤◌, refl, sym, ◌∙◌, ap, subst, inl, inr, arith, append_assoc, append-nil, cond, eqb-true}
 use Rattle.std.specs.Prelude.{AllPairs, filter, ◌==◌}
-use Rattle.std.proofs.lemmas.List.{map-append}
+use Rattle.std.proofs.lemmas.List.{map-append, length-append}
 use Rattle.std.proofs.lemmas.List.Elements.{filter-append}
 use Rattle.std.proofs.lemmas.List.Kept.{AllPairs-filter}
-use Rattle.std.proofs.lemmas.Bool.{eq-eqb}
+use Rattle.std.proofs.lemmas.List.Quantifiers.{all_pairs_push}
+use Rattle.std.proofs.lemmas.Bool.{eq-eqb, cases_lt}
 use Rattle.event_core.specs.declared.boot.Boot.{Boot}
 use Rattle.event_core.specs.declared.command.Command.{Command}
 use Rattle.event_core.specs.declared.entry.Place.{Place}
 use Rattle.event_core.specs.declared.entry.Place.TheVariants as place
+use Rattle.event_core.specs.declared.entry.Entry.{Entry}
 use Rattle.event_core.specs.Moved.{Moved, entries_of, made_by}
 use Rattle.event_core.specs.Legal.{ComesBefore, bare, same_place, at_place, Follows, with_bytes, moved_after, with_moved, LegalAfter, Legal}
 use Rattle.event_core.specs.Splits.{Lists, SplitsInto}
 use Rattle.event_core.specs.Locally.{Rising, FollowsLocally, StoodBefore, EachFollows}
-use Rattle.event_core.proofs.RisingLemmas.{Before, before-none, pairs-before, pairs-map, pairs-unmap, split-once}
+use Rattle.event_core.proofs.SoundLemmas.{entries_of-push}
+use Rattle.event_core.proofs.RisingLemmas.{filter-at, pairs-nil, Before, before-none, pairs-before, pairs-map, pairs-unmap, split-once}
 
 -- The law of lists: entries of which each follows locally make a legal history.
 
 -- a filter at an item that it keeps
 kept-at : {X : Type 0} (p : X → Bool) (xs : List X) (y : X) (ys : List X) → p y ≡ true → filter p (xs ++ y ∷ ys) ≡ filter p xs ++ y ∷ filter p ys
-kept-at {X} p xs y ys is = filter-append p xs (y ∷ ys) ∙ ap (λ (b : Bool). filter p xs ++ cond b (y ∷ filter p ys) (filter p ys)) is
+kept-at p xs y ys is = filter-append p xs (y ∷ ys) ∙ ap (λ (b : Bool). filter p xs ++ cond b (y ∷ filter p ys) (filter p ys)) is
 
 pub same_place-refl : (p : Place) → same_place p p ≡ true
 same_place-refl place.Memory = refl
@@ -73,3 +76,114 @@ pub split-legal : (boot : Boot) (scripts : List (List Command)) (history : List 
     → Legal boot scripts (entries_of history) × (with_moved boot scripts (entries_of history) ≡ history)
 split-legal boot scripts history lists rising splits each =
     law-from boot scripts history lists (pairs-unmap (λ (m : Moved). m.entry) ComesBefore history rising) splits each [] history refl
+
+-- ---- a legal history in its own lists
+
+-- where an item of a filtered list stands in the whole
+record Unfiltered {X : Type 0} (p : X → Bool) (xs own : List X) (m : X) : Type 0 where
+  pub done : List X
+  pub rest : List X
+  pub is : xs ≡ done ++ m ∷ rest
+  pub before : filter p done ≡ own
+  pub kept : p m ≡ true
+
+unfiltered : {X : Type 0} (p : X → Bool) (xs own : List X) (m : X) (later : List X) → filter p xs ≡ own ++ m ∷ later → Unfiltered p xs own m
+unfiltered p [] [] m later is = cc
+unfiltered p [] (o ∷ own) m later is = cc
+unfiltered {X} p (x ∷ xs) own m later is = by_test (p x) refl own is (λ others at. unfiltered p xs others m later at) where
+  Rest : Type 0
+  Rest = (others : List X) → filter p xs ≡ others ++ m ∷ later → Unfiltered p xs others m
+
+  by_test : (b : Bool) → p x ≡ b → (o : List X) → filter p (x ∷ xs) ≡ o ++ m ∷ later → Rest → Unfiltered p (x ∷ xs) o m
+  by_test true at [] is rest =
+      let here : x ∷ filter p xs ≡ m ∷ later = sym (filter-at p x xs true at) ∙ is in
+      let first : x ≡ m = cc in
+      record { done = []; rest = xs; is = ap (λ y. y ∷ xs) first; before = refl; kept = ap p (sym first) ∙ at }
+  by_test true at (o ∷ others) is rest =
+      let here : x ∷ filter p xs ≡ o ∷ (others ++ m ∷ later) = sym (filter-at p x xs true at) ∙ is in
+      let first : x ≡ o = cc in
+      let behind : filter p xs ≡ others ++ m ∷ later = cc in
+      let u = rest others behind in
+      record { done = x ∷ u.done; rest = u.rest; is = ap (λ ys. x ∷ ys) u.is; before = filter-at p x u.done true at ∙ ap (λ ys. x ∷ ys) u.before ∙ ap (λ y. y ∷ others) first; kept = u.kept }
+  by_test false at o is rest =
+      let u = rest o (sym (filter-at p x xs false at) ∙ is) in
+      record { done = x ∷ u.done; rest = u.rest; is = ap (λ ys. x ∷ ys) u.is; before = filter-at p x u.done false at ∙ u.before; kept = u.kept }
+
+-- two splits of one list behind as many items are one
+same-split : {X : Type 0} (xs : List X) (x : X) (ys us : List X) (u : X) (vs : List X) → length xs ≡ length us → xs ++ x ∷ ys ≡ us ++ u ∷ vs → (xs ≡ us) × (x ≡ u)
+same-split [] x ys [] u vs long is = (refl, (let same : x ≡ u = cc in same))
+same-split [] x ys (z ∷ us) u vs long is = absurd (omega (arith, long))
+same-split (w ∷ xs) x ys [] u vs long is = absurd (omega (arith, long))
+same-split (w ∷ xs) x ys (z ∷ us) u vs long is =
+    let first : w ≡ z = cc in
+    let rest : xs ++ x ∷ ys ≡ us ++ u ∷ vs = cc in
+    let found = same-split xs x ys us u vs (omega (arith, long)) rest in
+    (ap (λ a. a ∷ xs) first ∙ ap (λ as_. z ∷ as_) found.0, found.1)
+
+moved-begins : (boot : Boot) (scripts : List (List Command)) (history : List Moved) (entries : List Entry) → (rest : List Moved) × (moved_after boot scripts history entries ≡ history ++ rest)
+moved-begins boot scripts history [] = ([], sym (append-nil history))
+moved-begins boot scripts history (entry ∷ entries) =
+    let one = with_bytes boot scripts history entry in
+    let found = moved-begins boot scripts (history ++ one ∷ []) entries in
+    (one ∷ found.0, found.1 ∙ append_assoc history (one ∷ []) found.0)
+
+legal-at : (boot : Boot) (scripts : List (List Command)) (history : List Moved) (entries : List Entry) → LegalAfter boot scripts history entries → (done rest : List Moved) (m : Moved) → moved_after boot scripts history entries ≡ done ++ m ∷ rest → length history ≤ length done
+    → Follows boot scripts done m.entry × (with_bytes boot scripts done m.entry ≡ m)
+legal-at boot scripts history [] legal done rest m is long = absurd (let l = length-append done (m ∷ rest) in let same : length history ≡ length (done ++ m ∷ rest) = ap (λ (ms : List Moved). length ms) is in omega (arith, long, l, same))
+legal-at boot scripts history (entry ∷ entries) legal done rest m is long =
+    elim (cases_lt (length history) (length done)) [
+      | inl less ↦ legal-at boot scripts (history ++ one ∷ []) entries legal.2 done rest m is (let l = length-append history (one ∷ []) in omega (arith, less, l))
+      | inr more ↦
+          (let found = moved-begins boot scripts (history ++ one ∷ []) entries in
+          let split = same-split history one found.0 done m rest (omega (arith, long, more)) (sym (append_assoc history (one ∷ []) found.0) ∙ sym found.1 ∙ is) in
+          let at : m.entry ≡ entry = ap (λ (n : Moved). n.entry) (sym split.1) in (
+            subst (λ e. Follows boot scripts done e) (sym at) (subst (λ h. Follows boot scripts h entry) split.0 legal.0),
+            ap (with_bytes boot scripts done) at ∙ ap (λ h. with_bytes boot scripts h entry) (sym split.0) ∙ split.1,
+          ))
+    ]
+  where
+    one : Moved
+    one = with_bytes boot scripts history entry
+
+stands-there : (history done rest : List Moved) (m : Moved) (lists : Lists) → SplitsInto history lists → history ≡ done ++ m ∷ rest → (at : Place) → same_place at m.entry.place ≡ true → StoodBefore lists at (at_place at done) m
+stands-there history done rest m lists splits is place.Memory same = (map bare (filter there rest), splits.memory ∙ ap (λ h. map bare (filter there h)) is ∙ ap (map bare) (kept-at there done m rest same) ∙ map-append bare (filter there done) (m ∷ filter there rest)) where
+  there : Moved → Bool
+  there n = same_place place.Memory n.entry.place
+stands-there history done rest m lists splits is (place.Area a) same = (map bare (filter there rest), splits.areas a ∙ ap (λ h. map bare (filter there h)) is ∙ ap (map bare) (kept-at there done m rest same) ∙ map-append bare (filter there done) (m ∷ filter there rest)) where
+  there : Moved → Bool
+  there n = same_place (place.Area a) n.entry.place
+stands-there history done rest m lists splits is place.Own same = refl
+
+-- each entry of a legal history follows where it was made
+pub legal-follows : (boot : Boot) (scripts : List (List Command)) (entries : List Entry) (lists : Lists) → Legal boot scripts entries → SplitsInto (with_moved boot scripts entries) lists → EachFollows boot scripts lists
+legal-follows boot scripts entries lists legal splits cpu own later m is =
+    let u = unfiltered (λ (n : Moved). n.entry.cpu.0 == cpu) (with_moved boot scripts entries) own m later (sym (splits.cpus cpu) ∙ is) in
+    let found = legal-at boot scripts [] entries legal u.done u.rest m u.is (omega arith) in
+    let by : m.entry.cpu.0 ≡ cpu = eqb-true m.entry.cpu.0 cpu u.kept in
+    let mine : made_by m.entry.cpu.0 u.done ≡ own = ap (λ n. made_by n u.done) by ∙ u.before in (
+      at_place m.entry.place u.done,
+      stands-there (with_moved boot scripts entries) u.done u.rest m lists splits u.is m.entry.place (same_place-refl m.entry.place),
+      subst (λ o. FollowsLocally boot scripts o (at_place m.entry.place u.done) m) mine (record { over = found.0.over; stamp = found.0.stamp; bytes = ap (λ (n : Moved). n.bytes) (sym found.1) }),
+    )
+
+-- the entries of a history, and the bytes that they move, after others
+pub moved-entries : (boot : Boot) (scripts : List (List Command)) (before : List Moved) (entries : List Entry) → entries_of (moved_after boot scripts before entries) ≡ entries_of before ++ entries
+moved-entries boot scripts before [] = sym (append-nil (entries_of before))
+moved-entries boot scripts before (e ∷ entries) =
+    moved-entries boot scripts (before ++ with_bytes boot scripts before e ∷ []) entries
+    ∙ ap (λ es. es ++ entries) (entries_of-push before (with_bytes boot scripts before e))
+    ∙ append_assoc (entries_of before) (e ∷ []) entries
+
+pairs-after : (boot : Boot) (scripts : List (List Command)) (history : List Moved) (entries : List Entry) → LegalAfter boot scripts history entries → AllPairs Before history → AllPairs Before (moved_after boot scripts history entries)
+pairs-after boot scripts history [] legal all = all
+pairs-after boot scripts history (entry ∷ entries) legal all =
+    let one = with_bytes boot scripts history entry in
+    pairs-after boot scripts (history ++ one ∷ []) entries legal.2 (all_pairs_push Before history one all legal.1)
+
+-- a legal history rises
+pub legal-pairs : (boot : Boot) (scripts : List (List Command)) (entries : List Entry) → Legal boot scripts entries → AllPairs Before (with_moved boot scripts entries)
+legal-pairs boot scripts entries legal = pairs-after boot scripts [] entries legal (pairs-nil Before)
+
+pub legal-rising : (boot : Boot) (scripts : List (List Command)) (entries : List Entry) → Legal boot scripts entries → Rising entries
+legal-rising boot scripts entries legal =
+    subst Rising (moved-entries boot scripts [] entries) (pairs-map (λ (m : Moved). m.entry) ComesBefore (with_moved boot scripts entries) (legal-pairs boot scripts entries legal))

@@ -1,6 +1,6 @@
-use Rattle.std.proofs.Common.{◌≡◌, ℕ, zero, suc, ◌+◌, ◌<◌, ◌⊎◌, Bool, true, false, cond, List, [], ◌∷◌, ◌++◌, map, length, refl, sym, ◌∙◌, ap, subst, inl, inr, arith}
+use Rattle.std.proofs.Common.{◌≡◌, ℕ, suc, ◌⊎◌, Bool, true, false, cond, List, [], ◌∷◌, ◌++◌, map, refl, sym, ◌∙◌, ap, subst, inl, inr, arith}
 use Rattle.std.specs.Prelude.{All, AllPairs, filter, ◌==◌}
-use Rattle.std.proofs.lemmas.Bool.{cases_Bool, cases_eq, eq-eqb, ne_eqb}
+use Rattle.std.proofs.lemmas.Bool.{cases_eq, eq-eqb, ne_eqb}
 use Rattle.std.proofs.lemmas.List.Elements.{All-nil, All-cons, All-head, All-tail, All-filter}
 use Rattle.std.proofs.lemmas.List.Kept.{AllPairs-cons}
 use Rattle.event_core.specs.declared.entry.Entry.{Entry}
@@ -74,25 +74,22 @@ before-none m (inr both) = let less = both.1 in omega (arith, less)
 
 -- ---- lists with the same items of each key
 
-filter-yes : {X : Type 0} (p : X → Bool) (x : X) (xs : List X) → p x ≡ true → filter p (x ∷ xs) ≡ x ∷ filter p xs
-filter-yes p x xs is = ap (λ (b : Bool). cond b (x ∷ filter p xs) (filter p xs)) is
-
-filter-no : {X : Type 0} (p : X → Bool) (x : X) (xs : List X) → p x ≡ false → filter p (x ∷ xs) ≡ filter p xs
-filter-no p x xs is = ap (λ (b : Bool). cond b (x ∷ filter p xs) (filter p xs)) is
+pub filter-at : {X : Type 0} (p : X → Bool) (x : X) (xs : List X) (b : Bool) → p x ≡ b → filter p (x ∷ xs) ≡ cond b (x ∷ filter p xs) (filter p xs)
+filter-at p x xs b is = ap (λ (c : Bool). cond c (x ∷ filter p xs) (filter p xs)) is
 
 -- the first item of one list, where the first of the other has another key, stands behind it there
 stands-behind : {X : Type 0} (R : X → X → Type 0) (p : X → Bool) (x y : X) (xs ys : List X) → All (R y) ys → p x ≡ true → p y ≡ false → filter p (x ∷ xs) ≡ filter p (y ∷ ys) → R y x
 stands-behind R p x y xs ys all kept out same =
-    let found : x ∷ filter p xs ≡ filter p ys = sym (filter-yes p x xs kept) ∙ same ∙ filter-no p y ys out in
+    let found : x ∷ filter p xs ≡ filter p ys = sym (filter-at p x xs true kept) ∙ same ∙ filter-at p y ys false out in
     All-head (R y) x (filter p xs) (subst (All (R y)) (sym found) (All-filter p (R y) ys all))
 
 tails-same : {X : Type 0} (p : X → Bool) (x y : X) (xs ys : List X) → x ≡ y → filter p (x ∷ xs) ≡ filter p (y ∷ ys) → filter p xs ≡ filter p ys
 tails-same {X} p x y xs ys first same = by_test (p x) refl where
   by_test : (b : Bool) → p x ≡ b → filter p xs ≡ filter p ys
   by_test true is =
-      let here : x ∷ filter p xs ≡ y ∷ filter p ys = sym (filter-yes p x xs is) ∙ same ∙ filter-yes p y ys (ap p (sym first) ∙ is) in
+      let here : x ∷ filter p xs ≡ y ∷ filter p ys = sym (filter-at p x xs true is) ∙ same ∙ filter-at p y ys true (ap p (sym first) ∙ is) in
       cc
-  by_test false is = sym (filter-no p x xs is) ∙ same ∙ filter-no p y ys (ap p (sym first) ∙ is)
+  by_test false is = sym (filter-at p x xs false is) ∙ same ∙ filter-at p y ys false (ap p (sym first) ∙ is)
 
 -- whether an item has the key of another
 abbrev pub has_key_of : {X : Type 0} → (X → ℕ) → X → X → Bool
@@ -104,28 +101,30 @@ pub same-by-key : {X : Type 0} (key : X → ℕ) (R : X → X → Type 0) → ((
     → ((x : X) → filter (has_key_of key x) xs ≡ filter (has_key_of key x) ys) → xs ≡ ys
 same-by-key key R one_way [] [] left right same = refl
 same-by-key key R one_way [] (y ∷ ys) left right same =
-    let no : [] ≡ y ∷ filter (has_key_of key y) ys = same y ∙ filter-yes (has_key_of key y) y ys (eq-eqb (key y) (key y) refl) in
+    let no : [] ≡ y ∷ filter (has_key_of key y) ys = same y ∙ filter-at (has_key_of key y) y ys true (eq-eqb (key y) (key y) refl) in
     cc
 same-by-key key R one_way (x ∷ xs) [] left right same =
-    let no : x ∷ filter (has_key_of key x) xs ≡ [] = sym (filter-yes (has_key_of key x) x xs (eq-eqb (key x) (key x) refl)) ∙ same x in
+    let no : x ∷ filter (has_key_of key x) xs ≡ [] = sym (filter-at (has_key_of key x) x xs true (eq-eqb (key x) (key x) refl)) ∙ same x in
     cc
 same-by-key {X} key R one_way (x ∷ xs) (y ∷ ys) left right same =
     by_key (cases_eq (key x) (key y))
     (λ first. same-by-key key R one_way xs ys (pairs-tail R x xs left) (pairs-tail R y ys right) (λ z. tails-same (has_key_of key z) x y xs ys first (same z)))
   where
-  px : X → Bool
-  px = has_key_of key x
-  py : X → Bool
-  py = has_key_of key y
-  by_key : (key x ≡ key y) ⊎ (key x ≡ key y → ⊥) → (x ≡ y → xs ≡ ys) → x ∷ xs ≡ y ∷ ys
-  by_key (inl is) rest =
-      let here : x ∷ filter px xs ≡ y ∷ filter px ys = sym (filter-yes px x xs (eq-eqb (key x) (key x) refl)) ∙ same x ∙ filter-yes px y ys (eq-eqb (key y) (key x) (sym is)) in
-      let first : x ≡ y = cc in
-      ap (λ z. z ∷ xs) first ∙ ap (λ zs. y ∷ zs) (rest first)
-  by_key (inr apart) rest =
-      let behind : R y x = stands-behind R px x y xs ys (pairs-head R y ys right) (eq-eqb (key x) (key x) refl) (ne_eqb (key y) (key x) (λ is. apart (sym is))) (same x) in
-      let before : R x y = stands-behind R py y x ys xs (pairs-head R x xs left) (eq-eqb (key y) (key y) refl) (ne_eqb (key x) (key y) apart) (sym (same y)) in
-      absurd (one_way x y before behind)
+    px : X → Bool
+    px = has_key_of key x
+
+    py : X → Bool
+    py = has_key_of key y
+
+    by_key : (key x ≡ key y) ⊎ (key x ≡ key y → ⊥) → (x ≡ y → xs ≡ ys) → x ∷ xs ≡ y ∷ ys
+    by_key (inl is) rest =
+        let here : x ∷ filter px xs ≡ y ∷ filter px ys = sym (filter-at px x xs true (eq-eqb (key x) (key x) refl)) ∙ same x ∙ filter-at px y ys true (eq-eqb (key y) (key x) (sym is)) in
+        let first : x ≡ y = cc in
+        ap (λ z. z ∷ xs) first ∙ ap (λ zs. y ∷ zs) (rest first)
+    by_key (inr apart) rest =
+        let behind : R y x = stands-behind R px x y xs ys (pairs-head R y ys right) (eq-eqb (key x) (key x) refl) (ne_eqb (key y) (key x) (λ is. apart (sym is))) (same x) in
+        let before : R x y = stands-behind R py y x ys xs (pairs-head R x xs left) (eq-eqb (key y) (key y) refl) (ne_eqb (key x) (key y) apart) (sym (same y)) in
+        absurd (one_way x y before behind)
 
 -- entries come before each other in no circle
 pub before-one-way : (a b : Entry) → ComesBefore a b → ComesBefore b a → ⊥

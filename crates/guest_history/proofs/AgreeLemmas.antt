@@ -12,8 +12,8 @@ use Rattle.event_core.specs.Legal.{ComesBefore, bare, same_place, Legal, Whole, 
 use Rattle.event_core.specs.Splits.{Lists, SplitsInto}
 use Rattle.event_core.specs.Turns.{entries_by}
 use Rattle.event_core.specs.Locally.{Rising, EachFollows}
-use Rattle.event_core.proofs.RisingLemmas.{Before, before-one-way, pairs-map, pairs-unmap, same-by-key}
-use Rattle.event_core.proofs.LocalLemmas.{split-legal}
+use Rattle.event_core.proofs.RisingLemmas.{filter-at, Before, before-one-way, pairs-map, pairs-unmap, same-by-key}
+use Rattle.event_core.proofs.LocalLemmas.{split-legal, legal-follows, legal-pairs, legal-rising}
 use Rattle.guest_history.specs.Agreeing.{AreMadeBy, Agree, AllReplied}
 
 -- Lists that agree are those of one history.
@@ -38,9 +38,6 @@ with_list cpu ms by_cpu k = cond (k == cpu) ms (by_cpu k)
 -- a history with the bytes of the lists
 abbrev pub HasBytes : List Entry → (ℕ → List Moved) → Type 0
 HasBytes entries by_cpu = (history : List Moved) × (entries_of history ≡ entries) × ((cpu : ℕ) → by_cpu cpu ≡ made_by cpu history)
-
-filter-at : {X : Type 0} (p : X → Bool) (x : X) (xs : List X) (b : Bool) → p x ≡ b → filter p (x ∷ xs) ≡ cond b (x ∷ filter p xs) (filter p xs)
-filter-at p x xs b is = ap (λ (c : Bool). cond c (x ∷ filter p xs) (filter p xs)) is
 
 one-more : (e : Entry) (entries : List Entry) (by_cpu : ℕ → List Moved) → ((k : ℕ) → entries_by k (e ∷ entries) ≡ entries_of (by_cpu k))
     → ((others : ℕ → List Moved) → ((k : ℕ) → entries_by k entries ≡ entries_of (others k)) → HasBytes entries others) → (ms : List Moved) → by_cpu e.cpu.0 ≡ ms → HasBytes (e ∷ entries) by_cpu
@@ -116,6 +113,28 @@ agreeing-history entries lists rising same agree =
         areas = λ area. (let at = agree.areas area in there-one (λ (m : Moved). same_place (place.Area area) m.entry.place) found.0 (lists.by_area area) lists.by_cpu pairs found.2 at.rises at.same);
       },
     )
+
+-- ---- the lists of a history agree
+
+place-agrees : (p : Moved → Bool) (history there : List Moved) (by_cpu : ℕ → List Moved) → AllPairs Before history → ((cpu : ℕ) → by_cpu cpu ≡ made_by cpu history) → there ≡ map bare (filter p history)
+    → Rising (entries_of there) × ((cpu : ℕ) → made_by cpu there ≡ map bare (filter p (by_cpu cpu)))
+place-agrees p history there by_cpu rising cpus is = (
+  subst (λ ms. Rising (entries_of ms)) (sym is) (pairs-map (λ (m : Moved). m.entry) ComesBefore (map bare (filter p history)) (pairs-map bare Before (filter p history) (AllPairs-filter Before p history rising))),
+  λ cpu. ap (made_by cpu) is ∙ made-there p cpu history ∙ ap (λ ms. map bare (filter p ms)) (sym (cpus cpu)),
+)
+
+splits-agree : (history : List Moved) (lists : Lists) → AllPairs Before history → SplitsInto history lists → Agree lists
+splits-agree history lists rising splits = record {
+  memory = (let at = place-agrees (λ (m : Moved). same_place place.Memory m.entry.place) history lists.by_memory lists.by_cpu rising splits.cpus splits.memory in record { rises = at.0; same = at.1 });
+  areas = λ area. (let at = place-agrees (λ (m : Moved). same_place (place.Area area) m.entry.place) history (lists.by_area area) lists.by_cpu rising splits.cpus (splits.areas area) in record { rises = at.0; same = at.1 });
+}
+
+pub legal-lists : (boot : Boot) (scripts : List (List Command)) (entries : List Entry) (lists : Lists) → Legal boot scripts entries → SplitsInto (with_moved boot scripts entries) lists → Rising entries × Agree lists × EachFollows boot scripts lists
+legal-lists boot scripts entries lists legal splits = (
+  legal-rising boot scripts entries legal,
+  splits-agree (with_moved boot scripts entries) lists (legal-pairs boot scripts entries legal) splits,
+  legal-follows boot scripts entries lists legal splits,
+)
 
 -- ---- gathered entries
 

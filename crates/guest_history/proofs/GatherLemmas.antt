@@ -10,15 +10,12 @@ use Rattle.event_core.specs.declared.entry.Entry.{Entry}
 use Rattle.event_core.specs.Legal.{ComesBefore}
 use Rattle.event_core.specs.Turns.{entries_by}
 use Rattle.event_core.specs.Locally.{Rising}
-use Rattle.event_core.proofs.RisingLemmas.{pairs-nil, pairs-head, pairs-tail, before-one-way, has_key_of, same-by-key}
+use Rattle.event_core.proofs.RisingLemmas.{filter-at, pairs-nil, pairs-head, pairs-tail, before-one-way, has_key_of, same-by-key}
 use Rattle.guest_history.specs.Agreeing.{IsBy}
 
 -- Lists of entries end to end, and a stable sort of them by stamp.
 
 -- ---- filters
-
-filter-at : {X : Type 0} (p : X → Bool) (x : X) (xs : List X) (b : Bool) → p x ≡ b → filter p (x ∷ xs) ≡ cond b (x ∷ filter p xs) (filter p xs)
-filter-at p x xs b is = ap (λ (c : Bool). cond c (x ∷ filter p xs) (filter p xs)) is
 
 filter-all : {X : Type 0} (p : X → Bool) (xs : List X) → All (λ x. p x ≡ true) xs → filter p xs ≡ xs
 filter-all p [] all = refl

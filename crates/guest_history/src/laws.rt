@@ -32,3 +32,12 @@ pub fn agreeing_lists_have_a_history()
         ((cpu : ℕ) → entries_by cpu entries ≡ entries_of (lists.by_cpu cpu)) → Agree lists →
         (history : List Moved) × (entries_of history ≡ entries) × SplitsInto history lists }
 {}
+
+/// A legal history rises; and lists that it stands in agree, and each entry in them follows where it was made. So no legal history
+/// is left out by what is asked of lists here.
+pub fn legal_follows_where_made()
+    ensures { (boot : BootValue) (scripts : List (List CommandValue)) (entries : List EntryValue)
+        (lists : Lists) → Legal boot scripts entries →
+        SplitsInto (with_moved boot scripts entries) lists →
+        Rising entries × Agree lists × EachFollows boot scripts lists }
+{}

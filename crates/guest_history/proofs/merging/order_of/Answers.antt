@@ -1,4 +1,4 @@
-use Rattle.std.proofs.Common.{◌≡◌, List, map, ◌∙◌, ap}
+use Rattle.std.proofs.Common.{map, ◌∙◌, ap}
 use Rattle.event_core.specs.declared.entry.Entry.{Entry}
 use Rattle.guest_history.proofs.OrderLemmas.{order-taken, order-turned}
 use Rattle.guest_history.proofs.merging.order_of.Goals as goal
