@@ -5,3 +5,7 @@ pub mod SoundLemmas
 pub mod MapLemmas
 pub mod EarlyLemmas
 pub mod BootFacts
+pub mod RisingLemmas
+pub mod LocalLemmas
+pub mod BlockingLemmas
+pub mod IdleLemmas

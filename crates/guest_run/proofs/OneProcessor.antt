@@ -28,6 +28,7 @@ use Rattle.event_core.specs.Refusals.{refusal_of, memory_range_refusal}
 use Rattle.event_core.specs.MemoryRows.{run_of_claim, report_event, next_run, cleared_by, some_unaccepted}
 use Rattle.event_core.specs.Next.{Step, next_step, step_of, unrefused_step, refused_or, accept_step, claim_reply, report_reply}
 use Rattle.event_core.specs.Legal.{Follows, LegalAfter, bare, with_bytes, moved_after, with_moved, at_place, place_of, same_place, CallsFit, ComesBefore, greatest_stamp, stamp_of}
+use Rattle.event_core.proofs.LocalLemmas.{moved-entries}
 use Rattle.event_core.proofs.StandingLemmas.{IsPlaced, claim_of-memory, calls_of-memory}
 use Rattle.event_core.proofs.SoundLemmas.{entries_of-push}
 use Rattle.memory_core.specs.Steps.{last_stamp}
@@ -104,13 +105,6 @@ legal-push boot scripts before (e ∷ entries) entry legal here later = (legal.0
 pub moved-push : (boot : Boot) (scripts : List (List Command)) (before : List Moved) (entries : List Entry) (entry : Entry) → moved_after boot scripts before (entries ++ entry ∷ []) ≡ moved_after boot scripts before entries ++ with_bytes boot scripts (moved_after boot scripts before entries) entry ∷ []
 moved-push boot scripts before [] entry = refl
 moved-push boot scripts before (e ∷ entries) entry = moved-push boot scripts (before ++ with_bytes boot scripts before e ∷ []) entries entry
-
-pub moved-entries : (boot : Boot) (scripts : List (List Command)) (before : List Moved) (entries : List Entry) → entries_of (moved_after boot scripts before entries) ≡ entries_of before ++ entries
-moved-entries boot scripts before [] = sym (append-nil (entries_of before))
-moved-entries boot scripts before (e ∷ entries) =
-    moved-entries boot scripts (before ++ with_bytes boot scripts before e ∷ []) entries
-    ∙ ap (λ es. es ++ entries) (entries_of-push before (with_bytes boot scripts before e))
-    ∙ append_assoc (entries_of before) (e ∷ []) entries
 
 all-later : (clock : ℕ) (entry : Entry) (moved : List Moved) → clock < entry.stamp → AllByRecursion (λ (m : Moved). m.entry.stamp ≤ clock) moved → All (λ (m : Moved). ComesBefore m.entry entry) moved
 all-later clock entry [] low all = All-nil (λ (m : Moved). ComesBefore m.entry entry)

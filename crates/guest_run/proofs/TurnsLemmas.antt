@@ -20,6 +20,7 @@ use Rattle.event_core.specs.declared.reply.Reply.{Reply}
 use Rattle.event_core.specs.Calls.{calls_in, calls_of}
 use Rattle.event_core.specs.declared.boot.Recorded.{Recorded}
 use Rattle.event_core.specs.RangedScripts.{IsRanged, RangedScripts}
+use Rattle.event_core.proofs.LocalLemmas.{moved-entries}
 use Rattle.event_core.proofs.SoundLemmas.{legal-apart, apart-start}
 use Rattle.event_core.specs.Runs.{AreMaximalRuns, GoesBefore, run_holds, run_end, state_in as state_by}
 use Rattle.event_core.specs.Units.{guarded_units}
@@ -41,7 +42,7 @@ use Rattle.guest_run.specs.Running.{IsMine, At}
 use Rattle.guest_run.specs.Ready.{Ready, calls_by_now}
 use Rattle.guest_run.specs.Recordings.{History}
 use Rattle.guest_run.specs.declared.processor.Processor.{Processor}
-use Rattle.guest_run.proofs.OneProcessor.{clear-way, mine-all, running-start, moved-entries, running-placed, there-claim, there-calls}
+use Rattle.guest_run.proofs.OneProcessor.{clear-way, mine-all, running-start, running-placed, there-claim, there-calls}
 
 -- ---- no turn is idle
 
