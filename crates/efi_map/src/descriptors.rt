@@ -115,7 +115,8 @@ fn descriptors(
 ) -> Result<(Vec<Descriptor>, &[u8]), MapFault>
     requires stride { 40 ≤ stride }
     requires few { count ≤ 4096 }
-    ensures { Gives (λ x. (x.0.items, x.1.now)) result (descriptors_at size stride count [] bytes.now) }
+    ensures { Gives (λ x. (x.0.items, x.1.now)) result
+        (descriptors_at size stride count [] bytes.now) }
 {
     let mut found = Vec::new(alloc);
     let mut starts = Starts::new(alloc);

@@ -30,7 +30,8 @@ impl Model for Bitmap {
 
     ghost view = { λ a. record { unit = a.unit; base = a.base; bits = a.bits.items } };
 
-    ghost invariant = { λ a. IsTable (record { unit = a.unit; base = a.base; bits = a.bits.items }) };
+    ghost invariant = { λ a.
+        IsTable (record { unit = a.unit; base = a.base; bits = a.bits.items }) };
 }
 
 impl Bitmap {
@@ -116,7 +117,8 @@ impl Bitmap {
         requires some { 1 ≤ len }
         requires end { start + len ≤ 2 ^ 40 }
         ensures units { result ≡ guarded_in self.now start len }
-        ensures inside { IfSome result (λ units. (0 < units.count) × (units.first + units.count ≤ unit_count self.now.bits)) }
+        ensures inside { IfSome result (λ units.
+            (0 < units.count) × (units.first + units.count ≤ unit_count self.now.bits)) }
         ensures kept { IsTable self.now }
     {
         guarded_units(self.unit, self.base, self.unit_count(), start, len)

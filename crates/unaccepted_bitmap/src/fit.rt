@@ -51,7 +51,8 @@ fn around(descriptors: &[Descriptor], known: Pages, page: u64) -> Option<Pages>
 fn around_each(descriptors: &[Descriptor], known: Pages, pages: Pages) -> Option<Pages>
     requires known { AreUnaccepted descriptors.now known }
     requires room { pages.first + pages.count < 2 ^ 64 }
-    ensures is { is_some result ≡ each_such (unaccepted_page descriptors.now) pages.first pages.count }
+    ensures is { is_some result ≡
+        each_such (unaccepted_page descriptors.now) pages.first pages.count }
     ensures known { IfSome result (AreUnaccepted descriptors.now) }
 {
     let mut known = known;
@@ -65,7 +66,8 @@ fn around_each(descriptors: &[Descriptor], known: Pages, pages: Pages) -> Option
 /// The pages of a unit.
 fn pages_of(unit: u64, base: u64, number: u64) -> Pages
     requires { base + number * unit < 2 ^ 64 }
-    ensures { result ≡ record { first = base / 4096 + number * (unit / 4096); count = unit / 4096 } }
+    ensures { result ≡
+        record { first = base / 4096 + number * (unit / 4096); count = unit / 4096 } }
 {
     let count = unit / PAGE_BYTES;
     Pages {

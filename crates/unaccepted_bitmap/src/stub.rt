@@ -57,7 +57,9 @@ fn base(descriptors: &[Descriptor]) -> u64
 fn bitmap_bytes(descriptors: &[Descriptor], base: u64) -> u64
     requires ends { All (λ d. descriptor_end d ≤ 2 ^ 40) descriptors.now }
     requires base { base ≤ greatest_end descriptors.now }
-    ensures { result ≡ (round_up default_unit (greatest_end descriptors.now) - base + 8 * default_unit - 1) / (8 * default_unit) }
+    ensures { result ≡
+        (round_up default_unit (greatest_end descriptors.now) - base + 8 * default_unit - 1)
+        / (8 * default_unit) }
 {
     let end = greatest_end(descriptors);
     (end.next_multiple_of(UNIT) - base).div_ceil(8 * UNIT)
@@ -68,11 +70,13 @@ fn set_whole_units(bits: &mut Vec<u8>, base: u64, descriptors: &[Descriptor])
     requires aligned { base % 2097152 ≡ 0 }
     requires room { unit_count bits.old.items < 2 ^ 64 }
     requires starts { All (λ d. base ≤ d.start) descriptors.now }
-    requires ends { All (λ d. descriptor_end d ≤ base + unit_count bits.old.items * 2097152) descriptors.now }
+    requires ends { All (λ d. descriptor_end d ≤
+        base + unit_count bits.old.items * 2097152) descriptors.now }
     requires below { All (λ d. descriptor_end d ≤ 2 ^ 40) descriptors.now }
     requires clear { (unit : ℕ) → bit_of bits.old.items unit ≡ false }
     ensures size { length bits.new.items ≡ length bits.old.items }
-    ensures each { (unit : ℕ) → bit_of bits.new.items unit ≡ list_any (sets_unit base unit) descriptors.now }
+    ensures each { (unit : ℕ) → bit_of bits.new.items unit ≡
+        list_any (sets_unit base unit) descriptors.now }
 {
     for d in descriptors {
         set_units(bits, whole_units(*d, base));
@@ -109,7 +113,8 @@ fn unaccepted_rising(
 
 fn sort_by_start(descriptors: &mut Vec<Descriptor>) -> Result<(), AllocError>
     ensures same { IsPermutation descriptors.old.items descriptors.new.items }
-    ensures rise { OnOk result (IsNonDecreasingBy (λ (d : Descriptor). d.start) descriptors.new.items) }
+    ensures rise { OnOk result
+        (IsNonDecreasingBy (λ (d : Descriptor). d.start) descriptors.new.items) }
 {
     descriptors.sort_by_key(|d| d.start)?;
     Ok(())
