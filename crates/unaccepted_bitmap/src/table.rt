@@ -1,5 +1,6 @@
 //! The file of an unaccepted table (after Linux's `struct efi_unaccepted_memory`). Numbers are little endian.
 ghost use Rattle.std.specs.Prelude.{◌≡◌, ◌*◌, ◌^◌, ◌<◌, ◌≤◌, ◌++◌, IfOk, OnOk, length};
+ghost use Rattle.guest_base.specs.declared.limits.TheConstants.{ADDRESS_END};
 ghost use Rattle.event_core.specs.Table.{is_unit, most_bytes};
 ghost use Rattle.unaccepted_bitmap.specs.TableFile.{GivesTable, header_of, header_fault, table_of, table_bytes_of};
 
@@ -58,7 +59,7 @@ fn is_unit(unit: u64) -> bool
 fn most_bytes(unit: u64, base: u64) -> u64
     requires some { 0 < unit }
     requires room { 8 * unit < 2 ^ 64 }
-    requires low { base ≤ 2 ^ 40 }
+    requires low { base ≤ ADDRESS_END }
     ensures { result ≡ most_bytes unit base }
 {
     (ADDRESS_END - base).div_ceil(8 * unit)
