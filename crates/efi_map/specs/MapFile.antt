@@ -24,8 +24,8 @@ abbrev pub Gives : {X Y : Type 0} → (X → Y) → Result X MapFault → Result
 Gives view (Ok x) read = read ≡ Ok (view x)
 Gives view (Err e) read = (e ≡ NoMemory) ⊎ (read ≡ Err e)
 
--- A field is a value and the bytes after it. `size` is the length of the whole file, which a refusal says where the file ends too
--- early.
+-- A field is a value and the bytes after it. `size` is the length of the whole file, which a
+-- refusal says where the file ends too early.
 abbrev pub word_at : ℕ → List ℕ → Result (ℕ × List ℕ) MapFault
 word_at size bytes = if nat_lt (length bytes) 4 then Err (Short size) else Ok (number 4 bytes, drop 4 bytes)
 
@@ -74,13 +74,15 @@ end_limit d = if is_ram d then ADDRESS_END else 2 ^ 64
 abbrev pub meet : Descriptor → Descriptor → Bool
 meet a b = nat_lt (max a.start b.start) (min (descriptor_end a) (descriptor_end b))
 
--- a descriptor of this number meets an earlier one, of which the first is named; else what the checks behind it say
+-- a descriptor of this number meets an earlier one, of which the first is named; else what the
+-- checks behind it say
 abbrev pub overlap : ℕ → Option ℕ → Option MapFault → Option MapFault
 overlap number (Some earlier) others = Some (Overlap earlier number)
 overlap number None others = others
 
--- What is wrong with a descriptor, behind those that stand before it, whose count is its number: it doesn't start on a page, it
--- ends too high, it meets an earlier one, or the RAM of all of them is above 64 GiB together with its own.
+-- What is wrong with a descriptor, behind those that stand before it, whose count is its number:
+-- it doesn't start on a page, it ends too high, it meets an earlier one, or the RAM of all of them
+-- is above 64 GiB together with its own.
 unfoldable pub descriptor_fault : List Descriptor → Descriptor → Option MapFault
 descriptor_fault before d =
     if has_pages d
@@ -109,13 +111,17 @@ level_of (suc (suc (suc n))) = None
 -- bytes that are whole pages, and lie below 2^40
 abbrev pub are_pages : ℕ → ℕ → Bool
 are_pages start len =
-    (start % PAGE_BYTES == 0) && ((len % PAGE_BYTES == 0) && (nat_lt 0 len && nat_le (start + len) ADDRESS_END))
+    (start % PAGE_BYTES == 0)
+    && ((len % PAGE_BYTES == 0) && (nat_lt 0 len && nat_le (start + len) ADDRESS_END))
 
 -- the record of these bytes, where it is one
 unfoldable pub host_record : ℕ → ℕ → ℕ → Option HostRun
 host_record start len level =
     if are_pages start len
-    then option_map (λ l. record { pages = record { first = start / PAGE_BYTES; count = len / PAGE_BYTES }; level = l }) (level_of level)
+    then
+    option_map
+    (λ l. record { pages = record { first = start / PAGE_BYTES; count = len / PAGE_BYTES }; level = l })
+    (level_of level)
     else None
 
 -- two host records have a page in common

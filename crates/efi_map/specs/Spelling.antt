@@ -13,7 +13,8 @@ use Rattle.guest_map.specs.Fields.{low_bytes}
 -- a memory descriptor: type, padding, physical start, virtual start, number of pages, attribute (UEFI)
 unfoldable pub descriptor_bytes : Descriptor → List ℕ
 descriptor_bytes d =
-    low_bytes 4 d.kind ++ low_bytes 4 0 ++ low_bytes 8 d.start ++ low_bytes 8 0 ++ low_bytes 8 d.pages ++ low_bytes 8 0
+    low_bytes 4 d.kind ++ low_bytes 4 0 ++ low_bytes 8 d.start ++ low_bytes 8 0
+    ++ low_bytes 8 d.pages ++ low_bytes 8 0
 
 -- the number of a host record's level
 abbrev pub level_number : Level → ℕ
@@ -27,7 +28,8 @@ host_bytes h =
     low_bytes 8 (h.pages.first * PAGE_BYTES) ++ low_bytes 8 (h.pages.count * PAGE_BYTES)
     ++ low_bytes 4 (level_number h.level)
 
--- what stands before the descriptors: the bytes GMAP, the size of a descriptor, the version, and the count of descriptors
+-- what stands before the descriptors: the bytes GMAP, the size of a descriptor, the version, and
+-- the count of descriptors
 unfoldable pub header_bytes : ℕ → List ℕ
 header_bytes count = low_bytes 4 0x50414d47 ++ low_bytes 4 40 ++ low_bytes 4 1 ++ low_bytes 4 count
 

@@ -22,12 +22,16 @@ abbrev pub ◌>>=◌ : {A B : Type 0} → Result A Why → (A → Result B Why) 
 -- the name that a word is: 1 to 32 of the characters of a name
 abbrev pub name_of : List ℕ → Option (List ℕ)
 name_of word =
-    if (nat_le 1 (length word) && nat_le (length word) 32) && list_all name_character word then Some word else None
+    if (nat_le 1 (length word) && nat_le (length word) 32) && list_all name_character word
+    then Some word
+    else None
 
 -- the bytes that a word spells: 2 to 524,288 hexadecimal digits of either case, an even number of them, two for each byte
 abbrev pub hex_of : List ℕ → Option (List ℕ)
 hex_of word =
-    if nat_le 1 (length word) && nat_le (length word) MAX_HEX_DIGITS then result_ok (decode_of word) else None
+    if nat_le 1 (length word) && nat_le (length word) MAX_HEX_DIGITS
+    then result_ok (decode_of word)
+    else None
 
 -- a number up to a greatest one
 abbrev pub bounded : ℕ → Option ℕ → Option ℕ

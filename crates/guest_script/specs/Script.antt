@@ -39,7 +39,8 @@ followed_by (Err e) next = Err e
 -- the script with one more command, whose bytes may name 4,194,304 together with those before it
 abbrev pub with_command : List Command → Command → Result (List Command) ScriptFault
 with_command script command =
-    if nat_lt MAX_NAMED_BYTES (sum_by bytes_named script + bytes_named command) then Err fault.TooManyBytes
+    if nat_lt MAX_NAMED_BYTES (sum_by bytes_named script + bytes_named command)
+    then Err fault.TooManyBytes
     else Ok (script ++ command ∷ [])
 
 -- the script with the command of a line's words; a line without words is skipped, and there are at most 2,048 commands

@@ -68,7 +68,10 @@ fn around_each(descriptors: &[Descriptor], known: Pages, pages: Pages) -> Option
 fn pages_of(unit: u64, base: u64, number: u64) -> Pages
     requires { base + number * unit < 2 ^ 64 }
     ensures { result ≡
-        record { first = base / PAGE_BYTES + number * (unit / PAGE_BYTES); count = unit / PAGE_BYTES } }
+        record {
+          first = base / PAGE_BYTES + number * (unit / PAGE_BYTES);
+          count = unit / PAGE_BYTES;
+        } }
 {
     let count = unit / PAGE_BYTES;
     Pages {
