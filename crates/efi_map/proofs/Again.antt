@@ -1,5 +1,5 @@
 -- What was written is read again.
-use Rattle.std.proofs.Common.{◌≡◌, ℕ, suc, ◌+◌, ◌*◌, ◌/◌, ◌%◌, ◌^◌, ◌<◌, ◌≤◌, Bool, true, false, cond, List, [], ◌∷◌, ◌++◌, length, get_or, drop, filter, sum_by, position, max, Some, None, Result, Ok, Err, refl, sym, ap, subst, ◌∙◌, append_assoc, arith, inl, inr, nat_lt, nat_le, ◌==◌}
+use Rattle.std.proofs.Common.{◌≡◌, ℕ, suc, ◌+◌, ◌*◌, ◌/◌, ◌%◌, ◌^◌, ◌<◌, ◌≤◌, Bool, true, false, cond, List, [], ◌∷◌, ◌++◌, length, get_or, drop, filter, sum_by, position, max, Some, None, Result, Ok, Err, refl, sym, ap, subst, ◌∙◌, append_assoc, arith, inl, inr, nat_lt, nat_le, not, ◌==◌}
 use Rattle.std.specs.Result.{IfOk}
 use Rattle.std.specs.List.{All, AllPairs, list_any, flat_map}
 use Rattle.std.proofs.lemmas.Bool.{cases_Bool}
@@ -87,7 +87,7 @@ fine_again : (before : List Descriptor) (d : Descriptor) → IsDescriptor d → 
 unfolding descriptor_fault
 fine_again before d is each apart few =
     let some : has_pages d ≡ true = grind (arith, nat_tests, is.some) in
-    let aligned : (d.start % 4096 == 0) ≡ true = grind (arith, nat_tests, is.aligned) in
+    let aligned : not (d.start % 4096 == 0) ≡ false = grind (arith, nat_tests, is.aligned) in
     let low : nat_lt (end_limit d) (descriptor_end d) ≡ false = grind (arith, nat_tests, is.below) in
     let none : position (meet d) before ≡ None = position_of_none (meet d) before (λ k x lt. unmet d (get_or before k x) is.some (each k x lt).some (apart k x lt)) in
     let room : nat_lt (2 ^ 24) (sum_by ram_pages before + ram_pages d) ≡ false = grind (arith, nat_tests, few) in

@@ -3,6 +3,7 @@ ghost use Rattle.std.specs.Prelude.{◌≡◌, ◌<◌, ◌≤◌, ◌^◌, [], 
 ghost use Rattle.std.specs.BTreeMap.{get};
 ghost use Rattle.std.specs.Ordering.{nat_cmp};
 ghost use Rattle.event_core.specs.Map.{descriptor_end, ram_pages};
+ghost use Rattle.guest_base.specs.declared.limits.TheConstants.{MAX_DESCRIPTORS};
 ghost use Rattle.efi_map.specs.Starts.{IndexesDescriptors};
 ghost use Rattle.efi_map.specs.MapFile.{Gives, descriptor_at, descriptors_at, all_descriptors_at, descriptor_fault, end_limit, meet};
 
@@ -81,7 +82,7 @@ fn first_met(before: &[Descriptor], starts: &Starts, d: Descriptor) -> Option<us
 /// The first thing that is wrong with a descriptor, behind those before it, which have `ram` pages of RAM.
 #[tactic(auto, unfolding(crate::specs::MapFile::descriptor_fault))]
 fn fault(before: &[Descriptor], starts: &Starts, ram: u64, d: Descriptor) -> Option<MapFault>
-    requires few { length before.now ≤ 4096 }
+    requires few { length before.now ≤ MAX_DESCRIPTORS }
     requires index { IndexesDescriptors (get nat_cmp starts.now) before.now }
     requires ram { ram ≡ sum_by ram_pages before.now }
     ensures { result ≡ descriptor_fault before.now d }
@@ -114,8 +115,9 @@ fn descriptors(
     bytes: &[u8],
 ) -> Result<(Vec<Descriptor>, &[u8]), MapFault>
     requires stride { 40 ≤ stride }
-    requires few { count ≤ 4096 }
-    ensures { Gives (λ x. (x.0.items, x.1.now)) result (descriptors_at size stride count [] bytes.now) }
+    requires few { count ≤ MAX_DESCRIPTORS }
+    ensures { Gives (λ x. (x.0.items, x.1.now)) result
+        (descriptors_at size stride count [] bytes.now) }
 {
     let mut found = Vec::new(alloc);
     let mut starts = Starts::new(alloc);

@@ -53,7 +53,8 @@ fn put_header(out: &mut Vec<u8>, count: u64) -> Result<(), AllocError>
 }
 
 fn put_descriptors(out: &mut Vec<u8>, descriptors: &[Descriptor]) -> Result<(), AllocError>
-    ensures { OnOk result (out.new.items ≡ out.old.items ++ flat_map descriptor_bytes descriptors.now) }
+    ensures { OnOk result
+        (out.new.items ≡ out.old.items ++ flat_map descriptor_bytes descriptors.now) }
 {
     for d in descriptors {
         put_descriptor(out, *d)?;

@@ -1,5 +1,6 @@
 //! A guest's memory as its firmware and its host tell it.
 ghost use Rattle.std.specs.Prelude.{◌≡◌, ◌+◌, ◌*◌, ◌^◌, ◌<◌, ◌≤◌, ◌∷◌, [], IfOk};
+ghost use Rattle.guest_base.specs.declared.limits.TheConstants.{PAGE_BYTES, PAGE_END, MAX_RAM_PAGES};
 ghost use Rattle.event_core.specs.Map.{is_ram as names_ram, MapRules};
 
 use event_core::{Descriptor, Descriptors, Hosts};
@@ -27,12 +28,12 @@ impl GuestMap {
     /// The map of a guest all of whose memory is these pages, unaccepted, and whose host has mapped nothing.
     pub fn unaccepted(alloc: Global, pages: Pages) -> Result<GuestMap, AllocError>
         requires some { 0 < pages.count }
-        requires end { pages.first + pages.count ≤ 2 ^ 28 }
-        requires few { pages.count ≤ 2 ^ 24 }
+        requires end { pages.first + pages.count ≤ PAGE_END }
+        requires few { pages.count ≤ MAX_RAM_PAGES }
         ensures rules { IfOk result (λ map. MapRules map.descriptors map.hosts) }
         ensures hosts { IfOk result (λ map. map.hosts ≡ []) }
         ensures descriptors { IfOk result (λ map. map.descriptors ≡
-            record { kind = 15; start = 4096 * pages.first; pages = pages.count } ∷ []) }
+            record { kind = 15; start = PAGE_BYTES * pages.first; pages = pages.count } ∷ []) }
     {
         let mut descriptors = Descriptors::new(alloc);
         descriptors.try_push(Descriptor {

@@ -3,6 +3,7 @@ ghost use Rattle.std.specs.Prelude.{◌≡◌, ◌∷◌, [], ◌+◌, ◌<◌, 
 ghost use Rattle.std.specs.List.Sorted.{IsNonDecreasingBy};
 ghost use Rattle.event_core.specs.Map.{MapRules, first_state};
 ghost use Rattle.event_core.specs.Runs.{AreMaximalRuns, state_in, run_end};
+ghost use Rattle.guest_base.specs.declared.limits.TheConstants.{PAGE_END};
 ghost use Rattle.guest_map.specs.Ram.{run_of, ram_of, AreOrdered, AreBelow, IsPushed, grown};
 
 use crate::map::{GuestMap, is_ram};
@@ -48,7 +49,7 @@ fn sort(runs: &mut Vec<PageRun>)
 
 /// Whether a run goes on right behind another, in the same state.
 fn goes_on(last: PageRun, next: PageRun) -> bool
-    requires { run_end last ≤ 2 ^ 28 }
+    requires { run_end last ≤ PAGE_END }
     ensures { IsTrue result ↔ ((run_end last ≡ next.pages.first) × (last.state ≡ next.state)) }
 {
     last.pages.first + last.pages.count == next.pages.first && last.state == next.state
@@ -57,7 +58,7 @@ fn goes_on(last: PageRun, next: PageRun) -> bool
 /// Adds a run behind others: it is joined with the last where it goes on with it.
 pub fn push_run(runs: &mut Vec<PageRun>, next: PageRun) -> Result<(), AllocError>
     requires some { 0 < next.pages.count }
-    requires end { run_end next ≤ 2 ^ 28 }
+    requires end { run_end next ≤ PAGE_END }
     requires below { AreBelow next.pages.first runs.old.items }
     requires maximal { AreMaximalRuns (state_in runs.old.items) runs.old.items }
     ensures { OnOk result (IsPushed runs.old.items next runs.new.items) }

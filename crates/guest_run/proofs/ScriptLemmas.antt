@@ -36,10 +36,10 @@ unfolding with_words
 words_few number script longer [] few h = let e : script ≡ longer = cc in subst (λ (s : List Command). length s ≤ 2048) e few
 words_few number script longer (first ∷ words) few h =
     elim (cases_Bool (nat_le 2048 (length script))) [
-      | inl t ↦ none fault.TooManyLines longer (sym (ap (λ b. cond b (Err fault.TooManyLines) (followed_by (at_line number (command_of first words)) (with_command script))) t) ∙ h)
+      | inl t ↦ none fault.TooManyCommands longer (sym (ap (λ b. cond b (Err fault.TooManyCommands) (followed_by (at_line number (command_of first words)) (with_command script))) t) ∙ h)
       | inr f ↦
           let low : length script < 2048 = grind (arith, nat_tests, f, few) in
-          command_few (at_line number (command_of first words)) script longer low (sym (ap (λ b. cond b (Err fault.TooManyLines) (followed_by (at_line number (command_of first words)) (with_command script))) f) ∙ h)
+          command_few (at_line number (command_of first words)) script longer low (sym (ap (λ b. cond b (Err fault.TooManyCommands) (followed_by (at_line number (command_of first words)) (with_command script))) f) ∙ h)
     ]
 
 read_few : (read : Result (List (List ℕ)) ScriptFault) (number : ℕ) (script longer : List Command) → length script ≤ 2048 → followed_by read (with_words number script) ≡ Ok longer → length longer ≤ 2048

@@ -67,7 +67,7 @@ why_text why.NotUtf8 = codes "utf8"
 -- what is wrong with a script file
 abbrev pub script_fault_text : ScriptFault → List ℕ
 script_fault_text (script.Line number w) = codes "line " ++ (decimal number ++ (codes " " ++ why_text w))
-script_fault_text script.TooManyLines = codes "too many lines"
+script_fault_text script.TooManyCommands = codes "too many lines"
 script_fault_text script.TooManyBytes = codes "too many bytes"
 script_fault_text script.NoMemory = codes "memory"
 

@@ -162,7 +162,7 @@ fn print_script_fault(alloc: Global, fault: ScriptFault) -> Result<String, Alloc
             let word = why_word(why);
             format!(in alloc; "line {number} {word}")
         }
-        ScriptFault::TooManyLines => String::from_str(alloc, "too many lines"),
+        ScriptFault::TooManyCommands => String::from_str(alloc, "too many lines"),
         ScriptFault::TooManyBytes => String::from_str(alloc, "too many bytes"),
         ScriptFault::NoMemory => String::from_str(alloc, "memory"),
     }
