@@ -16,11 +16,12 @@ use Rattle.event_core.specs.MemoryRows.{page_state, pages_first, pages_count, ru
 use Rattle.event_core.specs.Units.{bit_after, guarded_units, first_run}
 use Rattle.page_module.specs.Spans.{Taken}
 use Rattle.event_core.specs.Table.{Bits}
-use Rattle.accepting_ranges.specs.Claims.{MeetsNone}
-use Rattle.memory_core.specs.Bitmaps.{bits_in, guarded_by, both_or_none, SameBits, MeetsNoneOf}
+use Rattle.accepting_ranges.specs.Claims.{kept_of, MeetsNone}
+use Rattle.memory_core.specs.OpenClaims.{units_of, MeetsNoOther}
+use Rattle.memory_core.specs.Bitmaps.{bits_in, guarded_by, both_or_none, SameBits}
 use Rattle.memory_core.specs.Value.{MemoryValue, Handed}
 use Rattle.memory_core.specs.Steps.{last_stamp, bare_entry, Appends, HasStates, IsOutFor, unaccepted_count}
-use Rattle.memory_core.specs.StandsFor.{kept_by, handed_for}
+use Rattle.memory_core.specs.StandsFor.{handed_for}
 use Rattle.memory_core.specs.Answers.{OthersKeep}
 use Rattle.memory_core.specs.declared.claims.OpenClaim.{OpenClaim}
 use Rattle.memory_core.proofs.BeginLemmas.{FirstRun, first-run}
@@ -46,32 +47,32 @@ both-is None R pair is = cc
 both-is (Some units) None pair is = cc
 both-is (Some units) (Some run) pair is = let same : (units, run) ≡ pair = cc in (ap (λ (p : Units × Units). Some p.0) same, ap (λ (p : Units × Units). Some p.1) same)
 
-pub record ClaimedFacts (boot : Boot) (entries : List Entry) (bits : Option Bits) (ranges : List (Option Units)) (guarded : Option Units) (room : ℕ) (units run : Units) : Type 0 where
+pub record ClaimedFacts (boot : Boot) (entries : List Entry) (bits : Option Bits) (claims : List (Option OpenClaim)) (guarded : Option Units) (room : ℕ) (units run : Units) : Type 0 where
   pub units_are : guarded ≡ Some units
   pub run_is : run_of_claim boot entries guarded ≡ Some run
   pub first : FirstRun (bits_in bits) units run
-  pub clear : MeetsNone ranges units
+  pub clear : MeetsNone units_of claims units
   pub end : units.first + units.count < 2 ^ 64
   pub need : count_such (bits_in bits) units.first units.count < room
 
 units-end : (U : Option Units) (units : Units) → U ≡ Some units → ForSome U (λ u. u.first + u.count < 2 ^ 64) → units.first + units.count < 2 ^ 64
 units-end U units is end = let P : Option Units → Type 0 = λ o. ForSome o (λ (u : Units). u.first + u.count < 2 ^ 64) in let here : ForSome (Some units) (λ (u : Units). u.first + u.count < 2 ^ 64) = subst P is end in here units refl
 
-pub claimed-facts : (boot : Boot) (entries : List Entry) (claims : List (Option OpenClaim)) (room : ℕ) (v : MemoryValue) (bits : Option Bits) (ranges : List (Option Units)) (start len : ℕ) (U R : Option Units) (pair : Units × Units)
+pub claimed-facts : (boot : Boot) (entries : List Entry) (claims : List (Option OpenClaim)) (room : ℕ) (v : MemoryValue) (bits : Option Bits) (start len : ℕ) (U R : Option Units) (pair : Units × Units)
     → seen boot entries claims room ≡ v → SameBits boot bits → ((unit : ℕ) → bits_in bits unit ≡ bit_after boot (calls_of boot entries) unit)
     → U ≡ guarded_by bits start len → ForSome U (λ u. u.first + u.count < 2 ^ 64)
     → R ≡ option_and_then (λ (u : Units). first_run (bits_in bits) u.first (u.first + u.count)) U
-    → both_or_none U R ≡ Some pair → MeetsNoneOf ranges U
+    → both_or_none U R ≡ Some pair → MeetsNoOther claims U
     → unaccepted_count v.boot v.entries (guarded_units v.boot start len) < v.room
-    → ClaimedFacts boot entries bits ranges (guarded_units boot start len) room pair.0 pair.1
-claimed-facts boot entries claims room v bits ranges start len U R pair view same set is_units end is_run both clear need =
+    → ClaimedFacts boot entries bits claims (guarded_units boot start len) room pair.0 pair.1
+claimed-facts boot entries claims room v bits start len U R pair view same set is_units end is_run both clear need =
     let two = both-is U R pair both in
     let guarded : guarded_units boot start len ≡ U = sym (is_units ∙ guarded-same boot bits start len same) in
     let run : run_of_claim boot entries U ≡ Some pair.1 = sym (run-same boot entries (bits_in bits) U set) ∙ sym is_run ∙ two.1 in
     let found : first_run (bits_in bits) pair.0.first (pair.0.first + pair.0.count) ≡ Some pair.1 = ap (option_and_then (λ (u : Units). first_run (bits_in bits) u.first (u.first + u.count))) (sym two.0) ∙ sym is_run ∙ two.1 in
     let M : MemoryValue → Type 0 = λ m. unaccepted_count m.boot m.entries (guarded_units m.boot start len) < m.room in
     let N : Option Units → Type 0 = λ u. unaccepted_count boot entries u < room in
-    let C : Option Units → Type 0 = MeetsNoneOf ranges in
+    let C : Option Units → Type 0 = MeetsNoOther claims in
     let K : ℕ → Type 0 = λ n. n < room in
     record {
       units_are = guarded ∙ two.0;
@@ -106,7 +107,7 @@ claim-is boot entries bits start len U R same set is_units is_run =
 -- what is out with the others stays, where no module call was made
 pub others-kept : (boot : Boot) (entries entries' : List Entry) (claims claims' : List (Option OpenClaim)) (room room' cpu : ℕ) (k : Option OpenClaim) → calls_of boot entries' ≡ calls_of boot entries → claims' ≡ slice_set claims cpu k → OthersKeep (seen boot entries claims room) (seen boot entries' claims' room') cpu
 others-kept boot entries entries' claims claims' room room' cpu k calls is = record {
-  handed = λ other differ. handed-is claims' other ∙ ap (λ cs. handed_for (kept_by cs other)) is ∙ ap handed_for (kept-other claims cpu other k differ) ∙ sym (handed-is claims other);
+  handed = λ other differ. handed-is claims' other ∙ ap (λ cs. handed_for (kept_of cs other)) is ∙ ap handed_for (kept-other claims cpu other k differ) ∙ sym (handed-is claims other);
   states = λ other claim page differ has inside. ap (λ cs. page_state boot cs page) calls;
 }
 
@@ -114,7 +115,7 @@ others-kept boot entries entries' claims claims' room room' cpu k calls is = rec
 pub out-for : (boot : Boot) (entries : List Entry) (claims claims' : List (Option OpenClaim)) (room cpu : ℕ) (run : Units) (span : Taken) (o : OpenClaim) (calls : List ModuleCall) → cpu < length claims → claims' ≡ slice_set claims cpu (Some o) → o.ticket ≡ span.ticket → calls_of boot entries ≡ calls → HasStates boot calls run span → pages_first boot run + pages_count boot run ≤ 2 ^ 28 → IsOutFor (seen boot entries claims' room) cpu run span
 out-for boot entries claims claims' room cpu run span o calls inside is ticket calls_are has low = record {
   room = o.room;
-  handed = handed-is claims' cpu ∙ ap (λ cs. handed_for (kept_by cs cpu)) is ∙ ap handed_for (kept-same claims cpu (Some o) inside) ∙ ap (λ t. Some (let h : Handed = record { ticket = t; room = o.room } in h)) ticket;
+  handed = handed-is claims' cpu ∙ ap (λ cs. handed_for (kept_of cs cpu)) is ∙ ap handed_for (kept-same claims cpu (Some o) inside) ∙ ap (λ t. Some (let h : Handed = record { ticket = t; room = o.room } in h)) ticket;
   has = (let P : List ModuleCall → Type 0 = λ cs. HasStates boot cs run span in subst P (sym calls_are) has);
   low = (let P : Pages → Type 0 = λ pages. pages.first + pages.count ≤ 2 ^ 28 in subst P (sym has.pages) low);
 }

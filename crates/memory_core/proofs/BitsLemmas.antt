@@ -1,6 +1,6 @@
 use Rattle.std.proofs.Common.{◌≡◌, ℕ, ◌+◌, ◌-◌, ◌*◌, ◌/◌, ◌^◌, ◌<◌, ◌≤◌, Bool, true, false, ◌&&◌, Option, None, Some, List, refl, sym, ◌∙◌, ap, arith, cond}
 use Rattle.std.specs.Prelude.{nat_lt, not, max, min}
-use Rattle.std.specs.Option.{option_and_then}
+use Rattle.std.specs.Option.{option_and_then, option_map_or}
 use Rattle.std.proofs.Math.Nat.{mul-le-mul_right}
 use Rattle.guest_base.specs.Ranges.{in_range}
 use Rattle.guest_base.specs.Search.{any_such, count_such}
@@ -15,7 +15,7 @@ use Rattle.event_core.specs.Units.{bit_of, bit_after, unit_first, unit_pages, un
 use Rattle.event_core.specs.Table.{Bits, IsTable}
 use Rattle.unaccepted_bitmap.proofs.TableFacts.{table_facts}
 use Rattle.memory_core.specs.Bitmaps.{bits_in, guarded_by, any_in, SameBits, PagesOf, ClearedIn, unit_first_of, unit_pages_of}
-use Rattle.memory_core.specs.Steps.{pages_of}
+use Rattle.memory_core.specs.Steps.{pages_of, unaccepted_count}
 use Rattle.memory_core.proofs.UnitsLemmas.{in_range-intro, first_run-same}
 
 -- ---- the bitmap that is kept, over the boot's
@@ -138,3 +138,9 @@ pub any-same : (boot : Boot) (entries : List Entry) (set : ℕ → Bool) (units 
 unfolding some_unaccepted
 any-same boot entries set None bits = refl
 any-same boot entries set (Some u) bits = any_such_same set (bit_after boot (calls_of boot entries)) u.first u.count (record { same = λ unit low high. bits unit })
+
+-- as many units are unaccepted by the kept bitmap as by the definition
+pub count-same : (boot : Boot) (entries : List Entry) (test : ℕ → Bool) (units : Option Units) → ((unit : ℕ) → test unit ≡ bit_after boot (calls_of boot entries) unit)
+    → option_map_or (λ (u : Units). count_such test u.first u.count) units 0 ≡ unaccepted_count boot entries units
+count-same boot entries test None same = refl
+count-same boot entries test (Some u) same = count_such_same test (bit_after boot (calls_of boot entries)) u.first u.count (record { same = λ unit low high. same unit })

@@ -22,16 +22,18 @@ use Rattle.accept_sizes.specs.Accepts.{pending_of}
 use Rattle.accept_sizes.specs.Ends.{stopped_at}
 use Rattle.accept_sizes.specs.declared.accept.RunEnd.{RunEnd}
 use Rattle.accept_sizes.specs.declared.accept.RunEnd.TheVariants.{Whole, Stopped}
+use Rattle.accepting_ranges.specs.Claims.{kept_of}
+use Rattle.accepting_ranges.proofs.ClaimLemmas.{kept_of-inside}
 use Rattle.memory_core.specs.Answers.{ReportedBy, OthersKeep, answer_at}
 use Rattle.memory_core.specs.Bitmaps.{bits_in, SameBits, ClearedIn, next_of}
 use Rattle.memory_core.specs.Value.{MemoryValue, Handed, handed_to}
 use Rattle.memory_core.specs.Steps.{BringsTo}
-use Rattle.memory_core.specs.StandsFor.{HoldsFor, kept_by, handed_for, reports_of}
+use Rattle.memory_core.specs.StandsFor.{HoldsFor, handed_for, reports_of}
 use Rattle.memory_core.specs.declared.claims.OpenClaim.{OpenClaim}
 use Rattle.memory_core.proofs.BegunLemmas.{seen}
 use Rattle.memory_core.proofs.CloseLemmas.{ReportsIn}
 use Rattle.memory_core.proofs.HoldsLemmas.{kept-open}
-use Rattle.memory_core.proofs.OpenLemmas.{handed-is, kept-other, item-inside}
+use Rattle.memory_core.proofs.OpenLemmas.{handed-is, kept-other}
 use Rattle.memory_core.proofs.ReportLemmas.{opened, counted, others-states, next-is}
 
 pub same-claim : (found : Option Claimed) (a b : Claimed) → found ≡ Some a → found ≡ Some b → a ≡ b
@@ -42,8 +44,8 @@ handed-ticket found o ticket is has = let P : Option Handed → Type 0 = λ h. I
 
 -- the reported run, of what a report requires and its parts give
 pub reports-of : (boot : Boot) (entries : List Entry) (claims : List (Option OpenClaim)) (room : ℕ) (v : MemoryValue) (now : List ModuleCall) (table table' : Table) (bits bits' : Option Bits) (cpu : ℕ) (o : OpenClaim) (claim : Claimed) (span : Taken) (end : RunEnd) (cleared : ℕ)
-    → seen boot entries claims room ≡ v → HoldsFor boot (calls_of boot entries) (claim_of boot entries) table.runs table.out (bits_in bits) (kept_by claims) → SameBits boot bits → 0 < unit_pages boot
-    → claim_of v.boot v.entries cpu ≡ Some claim → kept_by claims cpu ≡ Some o → IfSome (handed_to v cpu) (λ h. h.ticket ≡ span.ticket)
+    → seen boot entries claims room ≡ v → HoldsFor boot (calls_of boot entries) (claim_of boot entries) table.runs table.out (bits_in bits) (kept_of claims) → SameBits boot bits → 0 < unit_pages boot
+    → claim_of v.boot v.entries cpu ≡ Some claim → kept_of claims cpu ≡ Some o → IfSome (handed_to v cpu) (λ h. h.ticket ≡ span.ticket)
     → BringsTo v.boot (calls_of v.boot v.entries) claim.run span now end
     → ClearedIn bits bits' (pending_of span) o.run cleared
     → ((page : ℕ) → state_in table'.runs page ≡ cond (in_range span.ticket.pages.first span.ticket.pages.count page) (state_in span.runs page) (state_in table.runs page))
@@ -51,7 +53,7 @@ pub reports-of : (boot : Boot) (entries : List Entry) (claims : List (Option Ope
     → ReportsIn boot entries now table table' bits bits' claims cpu o claim span end cleared
 reports-of boot entries claims room v now table table' bits bits' cpu o claim span end cleared view holds same some claimed keeps ticket brings clears back out =
     let claimed_here : claim_of boot entries cpu ≡ Some claim = ap (λ (m : MemoryValue). claim_of m.boot m.entries cpu) view ∙ claimed in
-    let found = kept-open boot (bits_in bits) table.out (kept_by claims cpu) (claim_of boot entries cpu) o keeps (holds.open_claims cpu) in
+    let found = kept-open boot (bits_in bits) table.out (kept_of claims cpu) (claim_of boot entries cpu) o keeps (holds.open_claims cpu) in
     let run : o.run ≡ claim.run = found.2.run ∙ ap (λ (c : Claimed). c.run) (same-claim (claim_of boot entries cpu) found.0 claim found.1 claimed_here) in
     let B : MemoryValue → Type 0 = λ m. BringsTo m.boot (calls_of m.boot m.entries) claim.run span now end in
     let C : Units → Type 0 = λ u. ClearedIn bits bits' (pending_of span) u cleared in
@@ -69,38 +71,38 @@ reports-of boot entries claims room v now table table' bits bits' cpu o claim sp
     }
 
 -- an open claim's reports are kept
-pub kept-covers : (claims : List (Option OpenClaim)) (cpu kept : ℕ) (o : OpenClaim) → kept ≡ sum_by reports_of claims → kept_by claims cpu ≡ Some o → o.room + 1 ≤ kept
+pub kept-covers : (claims : List (Option OpenClaim)) (cpu kept : ℕ) (o : OpenClaim) → kept ≡ sum_by reports_of claims → kept_of claims cpu ≡ Some o → o.room + 1 ≤ kept
 kept-covers claims cpu kept o is keeps =
-    let sums = sum_by-set reports_of claims cpu None None (item-inside claims cpu o keeps) in
-    let was : reports_of (kept_by claims cpu) ≡ o.room + 1 = ap reports_of keeps in
+    let sums = sum_by-set reports_of claims cpu None None (kept_of-inside claims cpu o keeps) in
+    let was : reports_of (kept_of claims cpu) ≡ o.room + 1 = ap reports_of keeps in
     omega (arith, sums, was, is)
 
 module _ (boot : Boot) (entries : List Entry) (now : List ModuleCall) (table table' : Table) (bits bits' : Option Bits) (claims : List (Option OpenClaim)) (cpu : ℕ) (o : OpenClaim) (claim : Claimed) (span : Taken) (end : RunEnd) (cleared : ℕ) (r : ReportsIn boot entries now table table' bits bits' claims cpu o claim span end cleared) where
   -- the kept runs have the definition's next run
   pub next-found : next_of o.later.items o.opened end ≡ next_run boot claim (stop_of now)
   next-found =
-      let mine = opened boot (calls_of boot entries) now (claim_of boot entries) table table' bits bits' (kept_by claims) cpu o claim span end cleared r in
+      let mine = opened boot (calls_of boot entries) now (claim_of boot entries) table table' bits bits' (kept_of claims) cpu o claim span end cleared r in
       next-is boot claim o.later.items o.opened end (stop_of now) r.brings.stop mine.later
 
   -- the event is the definition's
   pub event-is : (next : Option Units) → next ≡ next_of o.later.items o.opened end → Report o.run now (stopped_at end) next ≡ report_event boot claim now
   event-is next is =
-      let mine = opened boot (calls_of boot entries) now (claim_of boot entries) table table' bits bits' (kept_by claims) cpu o claim span end cleared r in
+      let mine = opened boot (calls_of boot entries) now (claim_of boot entries) table table' bits bits' (kept_of claims) cpu o claim span end cleared r in
       ap (λ u. Report u now (stopped_at end) next) mine.run ∙ ap (λ p. Report claim.run now p next) (sym r.brings.stop) ∙ ap (Report claim.run now (stop_of now)) (is ∙ next-found)
 
   -- the units that the claim has cleared
   pub cleared-is : o.cleared + cleared ≡ cleared_by boot entries claim now
   cleared-is =
-      let mine = opened boot (calls_of boot entries) now (claim_of boot entries) table table' bits bits' (kept_by claims) cpu o claim span end cleared r in
-      ap (λ n. n + cleared) mine.cleared ∙ ap (λ n. claim.cleared + n) (counted boot (calls_of boot entries) now (claim_of boot entries) table table' bits bits' (kept_by claims) cpu o claim span end cleared r)
+      let mine = opened boot (calls_of boot entries) now (claim_of boot entries) table table' bits bits' (kept_of claims) cpu o claim span end cleared r in
+      ap (λ n. n + cleared) mine.cleared ∙ ap (λ n. claim.cleared + n) (counted boot (calls_of boot entries) now (claim_of boot entries) table table' bits bits' (kept_of claims) cpu o claim span end cleared r)
 
   -- what is out with the others stays
   pub others-reported : (entries' : List Entry) (claims' : List (Option OpenClaim)) (room room' : ℕ) (k : Option OpenClaim) → calls_of boot entries' ≡ calls_of boot entries ++ now → claims' ≡ slice_set claims cpu k → OthersKeep (seen boot entries claims room) (seen boot entries' claims' room') cpu
   others-reported entries' claims' room room' k calls is = record {
-    handed = λ other differ. handed-is claims' other ∙ ap (λ cs. handed_for (kept_by cs other)) is ∙ ap handed_for (kept-other claims cpu other k differ) ∙ sym (handed-is claims other);
+    handed = λ other differ. handed-is claims' other ∙ ap (λ cs. handed_for (kept_of cs other)) is ∙ ap handed_for (kept-other claims cpu other k differ) ∙ sym (handed-is claims other);
     states = λ other b page differ has inside.
         ap (λ cs. page_state boot cs page) calls
-        ∙ others-states boot (calls_of boot entries) now (claim_of boot entries) table table' bits bits' (kept_by claims) cpu o claim span end cleared r other b page differ has inside;
+        ∙ others-states boot (calls_of boot entries) now (claim_of boot entries) table table' bits bits' (kept_of claims) cpu o claim span end cleared r other b page differ has inside;
   }
 
 pub reported-closed : (old new : MemoryValue) (turn : Turn) (claim : Claimed) (calls : List ModuleCall) (end : RunEnd) (count : ℕ) → stop_of calls ≡ stopped_at end → next_run old.boot claim (stop_of calls) ≡ None → count ≡ cleared_by old.boot old.entries claim calls → ReportedBy old new turn claim calls (answer_at end count)

@@ -6,7 +6,6 @@ use Rattle.guest_base.specs.declared.memory.Units.{Units}
 use Rattle.event_core.specs.declared.boot.Boot.{Boot}
 use Rattle.event_core.specs.declared.module_call.ModuleCall.{ModuleCall}
 use Rattle.event_core.specs.Units.{bit_of, bit_after, first_run, units_end}
-use Rattle.accepting_ranges.specs.Claims.{MeetsNone, IsFirstToMeet}
 use Rattle.accept_sizes.specs.declared.accept.RunEnd.{RunEnd}
 use Rattle.accept_sizes.specs.declared.accept.RunEnd.TheVariants.{Whole, Stopped}
 use Rattle.event_core.specs.Table.{Bits}
@@ -63,7 +62,7 @@ abbrev pub PagesOf : Option Bits → Units → Pages → Type 0
 PagesOf None run pages = ⊥
 PagesOf (Some b) run pages = (pages.first ≡ unit_first_of b run.first) × (pages.count ≡ run.count * unit_pages_of b) × (pages.first + pages.count < 2 ^ 40)
 
--- of a run's units those without a pending page were cleared, so many of them
+-- of a run's units those without a pending page were cleared, this many of them
 pub record ClearedRun (old new : Bits) (pending : ℕ → Bool) (run : Units) (cleared : ℕ) : Type 0 where
   pub unit : new.unit ≡ old.unit
   pub base : new.base ≡ old.base
@@ -75,21 +74,12 @@ ClearedIn (Some old) (Some new) pending run cleared = ClearedRun old new pending
 ClearedIn None new pending run cleared = ⊥
 ClearedIn (Some old) None pending run cleared = ⊥
 
--- no claimed range meets the units, or this is the first that does
-abbrev pub MeetsNoneOf : List (Option Units) → Option Units → Type 0
-MeetsNoneOf ranges None = Unit {0}
-MeetsNoneOf ranges (Some units) = MeetsNone ranges units
-
-abbrev pub IsFirstMet : List (Option Units) → Option Units → Units → Type 0
-IsFirstMet ranges None met = ⊥
-IsFirstMet ranges (Some units) met = IsFirstToMeet ranges units met
-
 -- the maximal runs of numbers that pass a test, from one on and below `end`, rising
 abbrev pub AreRunsFrom : (ℕ → Bool) → ℕ → ℕ → List Units → Type 0
 AreRunsFrom test from end [] = first_run test from end ≡ None
 AreRunsFrom test from end (run ∷ runs) = (first_run test from end ≡ Some run) × AreRunsFrom test (units_end run) end runs
 
--- the run behind so many of a list, where the acceptance before it didn't stop
+-- the run behind this many of a list, where the acceptance before it didn't stop
 abbrev pub next_of : List Units → ℕ → RunEnd → Option Units
 next_of runs opened Whole = slice_get runs opened
 next_of runs opened (Stopped page) = None

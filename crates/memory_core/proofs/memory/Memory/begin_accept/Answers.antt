@@ -12,7 +12,6 @@ use Rattle.guest_base.specs.declared.memory.Units.{Units}
 use Rattle.event_core.specs.Units.{guarded_units, unit_pages, units_end}
 use Rattle.page_module.specs.States.{state_in}
 use Rattle.page_module.specs.Tables.{run_count}
-use Rattle.accepting_ranges.specs.Claims.{range_of}
 use Rattle.memory_core.specs.Bitmaps.{bits_in, AreRunsFrom}
 use Rattle.memory_core.specs.Answers.{IsMet, Opens, OthersKeep}
 use Rattle.memory_core.specs.Steps.{last_stamp, bare_entry, Appends}
@@ -29,7 +28,7 @@ pub returns-in-Some-clause-begun : goal.returns-in-Some-clause-begun
 returns-in-Some-clause-begun c =
     let i = c.self.inside in
     let s = c.self.invariant.0 in
-    let met = way-some i.boot.value i.entries i.last i.table i.bits i.accepting i.claims.items i.unit_pages i.kept i.room s c.guarded_units_of-units.result c.in-Some.met c.in-Some.ensures.some in
+    let met = way-some i.boot.value i.entries i.last i.table i.bits i.accepting i.unit_pages i.kept i.room s c.guarded_units_of-units.result c.in-Some.met c.in-Some.ensures.some in
     let guarded = c.guarded_units_of-units.ensures.units ∙ guarded-same i.boot.value i.bits c.args.start c.args.len s.same_bits in
     let P : MemoryValue → Type 0 = λ m. IsMet m (guarded_units m.boot c.args.start c.args.len) c.in-Some.met in
     subst P c.self.view_is (record { cpu = met.cpu; claim = met.claim; first = ap (in_the_way i.boot.value i.entries.items) (sym guarded) ∙ met.first; claimed = met.claimed; same = met.same })
@@ -40,7 +39,7 @@ run_pages-requires-clause-some c =
     let s = c.self.invariant.0 in
     let run = c.in-Some-both_of.run' in
     let units = c.in-Some-both_of.units in
-    let f = claimed-facts i.boot.value i.entries.items i.claims.items i.room c.args.self.now i.bits i.accepting c.args.start c.args.len c.guarded_units_of-units.result c.first_run_of-run.result (units, run) c.self.view_is s.same_bits s.holds.bits
+    let f = claimed-facts i.boot.value i.entries.items i.accepting i.room c.args.self.now i.bits i.accepting c.args.start c.args.len c.guarded_units_of-units.result c.first_run_of-run.result (units, run) c.self.view_is s.same_bits s.holds.bits
     c.guarded_units_of-units.ensures.units c.guarded_units_of-units.ensures.end c.first_run_of-run.ensures (sym c.both_of.ensures ∙ c.in-Some-both_of.is) (c.in_default.ensures.none refl) c.requires.room in
     f.first.some
 
@@ -50,7 +49,7 @@ run_pages-requires-clause-set c =
     let s = c.self.invariant.0 in
     let run = c.in-Some-both_of.run' in
     let units = c.in-Some-both_of.units in
-    let f = claimed-facts i.boot.value i.entries.items i.claims.items i.room c.args.self.now i.bits i.accepting c.args.start c.args.len c.guarded_units_of-units.result c.first_run_of-run.result (units, run) c.self.view_is s.same_bits s.holds.bits
+    let f = claimed-facts i.boot.value i.entries.items i.accepting i.room c.args.self.now i.bits i.accepting c.args.start c.args.len c.guarded_units_of-units.result c.first_run_of-run.result (units, run) c.self.view_is s.same_bits s.holds.bits
     c.guarded_units_of-units.ensures.units c.guarded_units_of-units.ensures.end c.first_run_of-run.ensures (sym c.both_of.ensures ∙ c.in-Some-both_of.is) (c.in_default.ensures.none refl) c.requires.room in
     f.first.set
 
@@ -60,13 +59,13 @@ take-span-requires-clause-here c page inside none =
     let s = c.self.invariant.0 in
     let run = c.in-Some-both_of.run' in
     let units = c.in-Some-both_of.units in
-    let f = claimed-facts i.boot.value i.entries.items i.claims.items i.room c.args.self.now i.bits i.accepting c.args.start c.args.len c.guarded_units_of-units.result c.first_run_of-run.result (units, run) c.self.view_is s.same_bits s.holds.bits
+    let f = claimed-facts i.boot.value i.entries.items i.accepting i.room c.args.self.now i.bits i.accepting c.args.start c.args.len c.guarded_units_of-units.result c.first_run_of-run.result (units, run) c.self.view_is s.same_bits s.holds.bits
     c.guarded_units_of-units.ensures.units c.guarded_units_of-units.ensures.end c.first_run_of-run.ensures (sym c.both_of.ensures ∙ c.in-Some-both_of.is) (c.in_default.ensures.none refl) c.requires.room in
     let pages = run-pages-are i.boot.value i.bits run c.run_pages.result s.same_bits c.run_pages.ensures in
     let first = f.first in
     let at : in_range (pages_first i.boot.value run) (pages_count i.boot.value run) page ≡ true = sym (ap (λ (p : Pages). in_range p.first p.count page) pages) ∙ inside in
     run-page-some i.boot.value (calls_of i.boot.value i.entries.items) run s.holds.ram (λ unit h. sym (s.holds.bits unit) ∙ first.set unit h) page at
-    (sym (s.holds.states page (claimed-in i.boot.value i.entries i.last i.table i.bits i.accepting i.claims.items i.unit_pages i.kept i.room units run s f.clear first page at)) ∙ none)
+    (sym (s.holds.states page (claimed-in i.boot.value i.entries i.last i.table i.bits i.accepting i.unit_pages i.kept i.room units run s f.clear first page at)) ∙ none)
 
 pub take-span-requires-clause-room : goal.take-span-requires-clause-room
 take-span-requires-clause-room c =
@@ -74,7 +73,7 @@ take-span-requires-clause-room c =
     let s = c.self.invariant.0 in
     let run = c.in-Some-both_of.run' in
     let units = c.in-Some-both_of.units in
-    let f = claimed-facts i.boot.value i.entries.items i.claims.items i.room c.args.self.now i.bits i.accepting c.args.start c.args.len c.guarded_units_of-units.result c.first_run_of-run.result (units, run) c.self.view_is s.same_bits s.holds.bits
+    let f = claimed-facts i.boot.value i.entries.items i.accepting i.room c.args.self.now i.bits i.accepting c.args.start c.args.len c.guarded_units_of-units.result c.first_run_of-run.result (units, run) c.self.view_is s.same_bits s.holds.bits
     c.guarded_units_of-units.ensures.units c.guarded_units_of-units.ensures.end c.first_run_of-run.ensures (sym c.both_of.ensures ∙ c.in-Some-both_of.is) (c.in_default.ensures.none refl) c.requires.room in
     let pages = run-pages-are i.boot.value i.bits run c.run_pages.result s.same_bits c.run_pages.ensures in
     let first = f.first in
@@ -91,7 +90,7 @@ runs_behind-requires-clause-run c =
     let s = c.self.invariant.0 in
     let run = c.in-Some-both_of.run' in
     let units = c.in-Some-both_of.units in
-    let f = claimed-facts i.boot.value i.entries.items i.claims.items i.room c.args.self.now i.bits i.accepting c.args.start c.args.len c.guarded_units_of-units.result c.first_run_of-run.result (units, run) c.self.view_is s.same_bits s.holds.bits
+    let f = claimed-facts i.boot.value i.entries.items i.accepting i.room c.args.self.now i.bits i.accepting c.args.start c.args.len c.guarded_units_of-units.result c.first_run_of-run.result (units, run) c.self.view_is s.same_bits s.holds.bits
     c.guarded_units_of-units.ensures.units c.guarded_units_of-units.ensures.end c.first_run_of-run.ensures (sym c.both_of.ensures ∙ c.in-Some-both_of.is) (c.in_default.ensures.none refl) c.requires.room in
     f.first.within
 
@@ -101,7 +100,7 @@ runs_behind-requires-clause-room c =
     let s = c.self.invariant.0 in
     let run = c.in-Some-both_of.run' in
     let units = c.in-Some-both_of.units in
-    let f = claimed-facts i.boot.value i.entries.items i.claims.items i.room c.args.self.now i.bits i.accepting c.args.start c.args.len c.guarded_units_of-units.result c.first_run_of-run.result (units, run) c.self.view_is s.same_bits s.holds.bits
+    let f = claimed-facts i.boot.value i.entries.items i.accepting i.room c.args.self.now i.bits i.accepting c.args.start c.args.len c.guarded_units_of-units.result c.first_run_of-run.result (units, run) c.self.view_is s.same_bits s.holds.bits
     c.guarded_units_of-units.ensures.units c.guarded_units_of-units.ensures.end c.first_run_of-run.ensures (sym c.both_of.ensures ∙ c.in-Some-both_of.is) (c.in_default.ensures.none refl) c.requires.room in
     let counts = f.first.counts in
     let need = f.need in
@@ -114,7 +113,7 @@ overflow_sub-claim-in-Some-both_of c =
     let s = c.self.invariant.0 in
     let run = c.in-Some-both_of.run' in
     let units = c.in-Some-both_of.units in
-    let f = claimed-facts i.boot.value i.entries.items i.claims.items i.room c.args.self.now i.bits i.accepting c.args.start c.args.len c.guarded_units_of-units.result c.first_run_of-run.result (units, run) c.self.view_is s.same_bits s.holds.bits
+    let f = claimed-facts i.boot.value i.entries.items i.accepting i.room c.args.self.now i.bits i.accepting c.args.start c.args.len c.guarded_units_of-units.result c.first_run_of-run.result (units, run) c.self.view_is s.same_bits s.holds.bits
     c.guarded_units_of-units.ensures.units c.guarded_units_of-units.ensures.end c.first_run_of-run.ensures (sym c.both_of.ensures ∙ c.in-Some-both_of.is) (c.in_default.ensures.none refl) c.requires.room in
     let counts = f.first.counts in
     let need = f.need in
@@ -126,7 +125,7 @@ invariant_of-self c =
     let s = c.self.invariant.0 in
     let run = c.in-Some-both_of.run' in
     let units = c.in-Some-both_of.units in
-    let f = claimed-facts i.boot.value i.entries.items i.claims.items i.room c.args.self.now i.bits i.accepting c.args.start c.args.len c.guarded_units_of-units.result c.first_run_of-run.result (units, run) c.self.view_is s.same_bits s.holds.bits
+    let f = claimed-facts i.boot.value i.entries.items i.accepting i.room c.args.self.now i.bits i.accepting c.args.start c.args.len c.guarded_units_of-units.result c.first_run_of-run.result (units, run) c.self.view_is s.same_bits s.holds.bits
     c.guarded_units_of-units.ensures.units c.guarded_units_of-units.ensures.end c.first_run_of-run.ensures (sym c.both_of.ensures ∙ c.in-Some-both_of.is) (c.in_default.ensures.none refl) c.requires.room in
     let pages = run-pages-are i.boot.value i.bits run c.run_pages.result s.same_bits c.run_pages.ensures in
     let first = f.first in
@@ -144,12 +143,12 @@ invariant_of-self c =
     let cpu_now : c.append.new.turn.cpu.0 ≡ turn.cpu.0 = ap (λ (t : Turn). t.cpu.0) c.append.ensures.turn in
     let U = both-is c.guarded_units_of-units.result c.first_run_of-run.result (units, run) (sym c.both_of.ensures ∙ c.in-Some-both_of.is) in
     let event : Claim None c.guarded_units_of-units.result c.first_run_of-run.result ≡ Claim None (Some units) (Some run) = ap (λ u. Claim None u c.first_run_of-run.result) U.0 ∙ ap (Claim None (Some units)) U.1 in (
-      stands-claimed i.boot.value i.entries c.append.new.entries i.last c.append.new.last i.table c.take-span.new.self i.bits i.accepting c.add.new.self i.claims.items c.set_claim.new.claims.items i.unit_pages i.kept _ i.room left turn units run c.replace.result c.run_pages.result c.take-span.result
+      stands-claimed i.boot.value i.entries c.append.new.entries i.last c.append.new.last i.table c.take-span.new.self i.bits i.accepting c.add.new.self i.accepting c.set_claim.new.claims.items i.unit_pages i.kept _ i.room left turn units run c.replace.result c.run_pages.result c.take-span.result
           s (omega (arith, low, cpus)) free f.clear first f.end need (subst (λ (rs : Vec Units Global). AreRunsFrom (bits_in i.bits) (units_end run) (units_end units) rs.items) (sym c.replace.ensures.value) c.runs_behind.ensures)
           (c.append.ensures.entries ∙ ap (λ e. i.entries.items ++ bare_entry turn i.last e ∷ []) event) c.append.ensures.capacity c.append.ensures.last c.requires.clock last
           pages c.take-span.ensures.pages c.take-span.ensures.rest c.take-span.ensures.out c.take-span.ensures.room
           (λ other. c.add.ensures other ∙ ap (λ n. cond (other == n) (Some units) (range_of i.accepting other)) cpu_now)
-          refl (c.set_claim.ensures ∙ ap (λ n. slice_set i.claims.items n (Some (made_claim units run c.replace.result c.ticket.result left))) cpu_now ∙ ap (λ t. slice_set i.claims.items turn.cpu.0 (Some (made_claim units run c.replace.result t left))) c.ticket.ensures)
+          refl (c.set_claim.ensures ∙ ap (λ n. slice_set i.accepting n (Some (made_claim units run c.replace.result c.ticket.result left))) cpu_now ∙ ap (λ t. slice_set i.accepting turn.cpu.0 (Some (made_claim units run c.replace.result t left))) c.ticket.ensures)
           refl (omega (arith, fits, small, counts, need, some)),
       record { empty = ap (λ (rs : Vec Units Global). rs.items) c.replace.ensures.after ∙ c.new.ensures.items; enough = omega arith },
     )
@@ -168,7 +167,7 @@ invariant_of-self-in-None c =
     let fits = s.entry_room in
     let small = i.entries.small in
     let spare = c.self.invariant.1.enough in (
-      stands-more i.boot.value i.entries c.append.new.entries i.last c.append.new.last i.table i.bits i.accepting i.claims.items i.unit_pages i.kept i.room _ turn (Claim None U R) s
+      stands-more i.boot.value i.entries c.append.new.entries i.last c.append.new.last i.table i.bits i.accepting i.unit_pages i.kept i.room _ turn (Claim None U R) s
           (calls-claimed i.boot.value i.entries.items turn i.last U R) (claims-closed i.boot.value i.entries.items turn i.last U R free (sym c.both_of.ensures ∙ c.in-None.is))
           c.append.ensures.entries c.append.ensures.capacity c.append.ensures.last c.requires.clock last (omega (arith, fits, small)) (omega (arith, room, need)) refl,
       record { empty = c.self.invariant.1.empty; enough = omega (arith, spare) },
@@ -180,7 +179,7 @@ returns-in-Some-both_of-clause-begun c =
     let s = c.self.invariant.0 in
     let run = c.in-Some-both_of.run' in
     let units = c.in-Some-both_of.units in
-    let f = claimed-facts i.boot.value i.entries.items i.claims.items i.room c.args.self.now i.bits i.accepting c.args.start c.args.len c.guarded_units_of-units.result c.first_run_of-run.result (units, run) c.self.view_is s.same_bits s.holds.bits
+    let f = claimed-facts i.boot.value i.entries.items i.accepting i.room c.args.self.now i.bits i.accepting c.args.start c.args.len c.guarded_units_of-units.result c.first_run_of-run.result (units, run) c.self.view_is s.same_bits s.holds.bits
     c.guarded_units_of-units.ensures.units c.guarded_units_of-units.ensures.end c.first_run_of-run.ensures (sym c.both_of.ensures ∙ c.in-Some-both_of.is) (c.in_default.ensures.none refl) c.requires.room in
     let pages = run-pages-are i.boot.value i.bits run c.run_pages.result s.same_bits c.run_pages.ensures in
     let first = f.first in
@@ -198,13 +197,13 @@ returns-in-Some-both_of-clause-begun c =
     subst P c.self.view_is
     (record {
       run = run;
-      free = ap (in_the_way i.boot.value i.entries.items) (sym guarded) ∙ way-none i.boot.value i.entries i.last i.table i.bits i.accepting i.claims.items i.unit_pages i.kept i.room s U (c.in_default.ensures.none refl);
+      free = ap (in_the_way i.boot.value i.entries.items) (sym guarded) ∙ way-none i.boot.value i.entries i.last i.table i.bits i.accepting i.unit_pages i.kept i.room s U (c.in_default.ensures.none refl);
       first = f.run_is;
-      out = out-for i.boot.value c.append.new.entries.items i.claims.items c.set_claim.new.claims.items 0 turn.cpu.0 run c.take-span.result (made_claim units run c.replace.result c.ticket.result left) calls (omega (arith, low, cpus, places))
-          (c.set_claim.ensures ∙ ap (λ n. slice_set i.claims.items n (Some (made_claim units run c.replace.result c.ticket.result left))) cpu_now) c.ticket.ensures
+      out = out-for i.boot.value c.append.new.entries.items i.accepting c.set_claim.new.claims.items 0 turn.cpu.0 run c.take-span.result (made_claim units run c.replace.result c.ticket.result left) calls (omega (arith, low, cpus, places))
+          (c.set_claim.ensures ∙ ap (λ n. slice_set i.accepting n (Some (made_claim units run c.replace.result c.ticket.result left))) cpu_now) c.ticket.ensures
           (ap (calls_of i.boot.value) c.append.ensures.entries ∙ calls-claimed i.boot.value i.entries.items turn i.last U R)
           (has-states i.boot.value calls (claim_of i.boot.value i.entries.items) run c.run_pages.result i.table.runs c.take-span.result pages c.take-span.ensures.pages c.take-span.ensures.states
-          (claimed-in i.boot.value i.entries i.last i.table i.bits i.accepting i.claims.items i.unit_pages i.kept i.room units run s f.clear first) s.holds.states)
+          (claimed-in i.boot.value i.entries i.last i.table i.bits i.accepting i.unit_pages i.kept i.room units run s f.clear first) s.holds.states)
           (run-low i.boot.value calls run s.booted s.holds.ram first.some (λ unit h. sym (s.holds.bits unit) ∙ first.set unit h)).0;
     })
 
@@ -215,7 +214,7 @@ returns-in-Some-both_of-clause-appends c free =
     let turn = c.args.turn.now in
     let P : MemoryValue → Type 0 = λ m. Appends m (seen i.boot.value c.append.new.entries.items c.set_claim.new.claims.items 0) turn c.append.new.turn (Claim None (guarded_units m.boot c.args.start c.args.len) (run_of_claim m.boot m.entries (guarded_units m.boot c.args.start c.args.len))) in
     subst P c.self.view_is
-    (appends-of (seen i.boot.value i.entries.items i.claims.items i.room) (seen i.boot.value c.append.new.entries.items c.set_claim.new.claims.items 0) turn c.append.new.turn i.last (Claim None c.guarded_units_of-units.result c.first_run_of-run.result) _
+    (appends-of (seen i.boot.value i.entries.items i.accepting i.room) (seen i.boot.value c.append.new.entries.items c.set_claim.new.claims.items 0) turn c.append.new.turn i.last (Claim None c.guarded_units_of-units.result c.first_run_of-run.result) _
     refl c.append.ensures.entries s.last_is (claim-is i.boot.value i.entries.items i.bits c.args.start c.args.len c.guarded_units_of-units.result c.first_run_of-run.result s.same_bits s.holds.bits c.guarded_units_of-units.ensures.units c.first_run_of-run.ensures) c.append.ensures.turn)
 
 pub returns-in-Some-both_of-clause-others : goal.returns-in-Some-both_of-clause-others
@@ -229,9 +228,9 @@ returns-in-Some-both_of-clause-others c =
     let left : ℕ = i.room - 1 - run.count in
     let P : MemoryValue → Type 0 = λ m. OthersKeep m (seen i.boot.value c.append.new.entries.items c.set_claim.new.claims.items 0) turn.cpu.0 in
     subst P c.self.view_is
-    (others-kept i.boot.value i.entries.items c.append.new.entries.items i.claims.items c.set_claim.new.claims.items i.room 0 turn.cpu.0 (Some (made_claim units run c.replace.result c.ticket.result left))
+    (others-kept i.boot.value i.entries.items c.append.new.entries.items i.accepting c.set_claim.new.claims.items i.room 0 turn.cpu.0 (Some (made_claim units run c.replace.result c.ticket.result left))
     (ap (calls_of i.boot.value) c.append.ensures.entries ∙ calls-claimed i.boot.value i.entries.items turn i.last c.guarded_units_of-units.result c.first_run_of-run.result)
-    (c.set_claim.ensures ∙ ap (λ n. slice_set i.claims.items n (Some (made_claim units run c.replace.result c.ticket.result left))) cpu_now))
+    (c.set_claim.ensures ∙ ap (λ n. slice_set i.accepting n (Some (made_claim units run c.replace.result c.ticket.result left))) cpu_now))
 
 pub returns-in-None-clause-begun : goal.returns-in-None-clause-begun
 returns-in-None-clause-begun c =
@@ -242,7 +241,7 @@ returns-in-None-clause-begun c =
     let guarded = c.guarded_units_of-units.ensures.units ∙ guarded-same i.boot.value i.bits c.args.start c.args.len s.same_bits in
     let P : MemoryValue → Type 0 = λ m. (in_the_way m.boot m.entries (guarded_units m.boot c.args.start c.args.len) ≡ None) × (run_of_claim m.boot m.entries (guarded_units m.boot c.args.start c.args.len) ≡ None) in
     subst P c.self.view_is (
-      ap (in_the_way i.boot.value i.entries.items) (sym guarded) ∙ way-none i.boot.value i.entries i.last i.table i.bits i.accepting i.claims.items i.unit_pages i.kept i.room s U (c.in_default.ensures.none refl),
+      ap (in_the_way i.boot.value i.entries.items) (sym guarded) ∙ way-none i.boot.value i.entries i.last i.table i.bits i.accepting i.unit_pages i.kept i.room s U (c.in_default.ensures.none refl),
       none-claimed i.boot.value i.entries.items i.bits c.args.start c.args.len U R s.same_bits s.holds.bits c.guarded_units_of-units.ensures.units c.first_run_of-run.ensures (sym c.both_of.ensures ∙ c.in-None.is),
     )
 
@@ -251,7 +250,7 @@ returns-in-None-clause-appends c free =
     let i = c.self.inside in
     let s = c.self.invariant.0 in
     let turn = c.args.turn.now in
-    let P : MemoryValue → Type 0 = λ m. Appends m (seen i.boot.value c.append.new.entries.items i.claims.items (i.room - 1)) turn c.append.new.turn (Claim None (guarded_units m.boot c.args.start c.args.len) (run_of_claim m.boot m.entries (guarded_units m.boot c.args.start c.args.len))) in
+    let P : MemoryValue → Type 0 = λ m. Appends m (seen i.boot.value c.append.new.entries.items i.accepting (i.room - 1)) turn c.append.new.turn (Claim None (guarded_units m.boot c.args.start c.args.len) (run_of_claim m.boot m.entries (guarded_units m.boot c.args.start c.args.len))) in
     subst P c.self.view_is
-    (appends-of (seen i.boot.value i.entries.items i.claims.items i.room) (seen i.boot.value c.append.new.entries.items i.claims.items (i.room - 1)) turn c.append.new.turn i.last (Claim None c.guarded_units_of-units.result c.first_run_of-run.result) _
+    (appends-of (seen i.boot.value i.entries.items i.accepting i.room) (seen i.boot.value c.append.new.entries.items i.accepting (i.room - 1)) turn c.append.new.turn i.last (Claim None c.guarded_units_of-units.result c.first_run_of-run.result) _
     refl c.append.ensures.entries s.last_is (claim-is i.boot.value i.entries.items i.bits c.args.start c.args.len c.guarded_units_of-units.result c.first_run_of-run.result s.same_bits s.holds.bits c.guarded_units_of-units.ensures.units c.first_run_of-run.ensures) c.append.ensures.turn)
