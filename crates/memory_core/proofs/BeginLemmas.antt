@@ -1,7 +1,6 @@
-use Rattle.std.proofs.Common.{◌≡◌, ◌≢◌, ℕ, ◌+◌, ◌-◌, ◌*◌, ◌^◌, ◌<◌, ◌≤◌, Bool, true, false, Option, None, Some, List, [], ◌∷◌, ◌++◌, refl, sym, ◌∙◌, ap, subst, inl, inr, arith, cond, length, max}
-use Rattle.std.specs.Prelude.{sum_by, slice_set, Vec, vec_capacity, ◌==◌}
+use Rattle.std.proofs.Common.{◌≡◌, ◌≢◌, ℕ, ◌+◌, ◌-◌, ◌*◌, ◌^◌, ◌<◌, ◌≤◌, Bool, true, false, Option, None, Some, List, [], ◌∷◌, ◌++◌, refl, sym, ◌∙◌, ap, subst, arith, cond, length, max}
+use Rattle.std.specs.Prelude.{sum_by, slice_set, Vec, vec_capacity}
 use Rattle.std.specs.declared.alloc.Global.{Global}
-use Rattle.std.specs.Option.{option_map}
 use Rattle.std.proofs.Math.Nat.{mul-le-mul_right}
 use Rattle.std.proofs.lemmas.List.{length_push, length-set}
 use Rattle.std.proofs.lemmas.List.Sums.{sum_by-set}
@@ -31,11 +30,10 @@ use Rattle.memory_core.specs.Bitmaps.{bits_in, AreRunsFrom}
 use Rattle.memory_core.specs.Steps.{bare_entry, last_stamp, pages_of, IsInTable}
 use Rattle.memory_core.specs.StandsFor.{StandsFor, HoldsFor, OpenStands, spans_of, reports_of, pieces_for}
 use Rattle.memory_core.specs.declared.claims.OpenClaim.{OpenClaim}
-use Rattle.memory_core.proofs.ClearLemmas.{nat-cases}
 use Rattle.memory_core.proofs.HoldsLemmas.{open-kept, none-kept, holds-open}
 use Rattle.memory_core.proofs.UnitsLemmas.{first_run-facts, run-counts}
 use Rattle.memory_core.proofs.KeptLemmas.{runs-same}
-use Rattle.memory_core.proofs.StepLemmas.{last-push, claim-mine, claim-other, calls-claimed, same-is, not-same}
+use Rattle.memory_core.proofs.StepLemmas.{last-push, claim-mine, claim-other, calls-claimed}
 use Rattle.memory_core.proofs.OpenLemmas.{clear-of, apart-of, meets-swap, run-in, runs-few, room-left, kept-same, kept-other, cpus-set}
 
 -- the claim that is kept

@@ -1,7 +1,6 @@
-use Rattle.std.proofs.Common.{◌≡◌, ℕ, ◌+◌, ◌-◌, ◌*◌, ◌^◌, ◌<◌, ◌≤◌, true, Option, None, Some, List, [], ◌∷◌, ◌++◌, sym, ◌∙◌, ap, subst, inl, inr, arith, cond, length, max}
-use Rattle.std.specs.Prelude.{sum_by, slice_set, Vec, vec_capacity, ◌==◌}
+use Rattle.std.proofs.Common.{◌≡◌, ℕ, ◌+◌, ◌-◌, ◌*◌, ◌^◌, ◌<◌, ◌≤◌, true, Option, None, Some, List, [], ◌∷◌, ◌++◌, sym, ◌∙◌, ap, subst, arith, cond, length, max}
+use Rattle.std.specs.Prelude.{sum_by, slice_set, Vec, vec_capacity}
 use Rattle.std.specs.declared.alloc.Global.{Global}
-use Rattle.std.specs.Option.{option_map}
 use Rattle.std.proofs.lemmas.List.{length_push, length-set}
 use Rattle.std.proofs.lemmas.List.Sums.{sum_by-set}
 use Rattle.guest_base.specs.Ranges.{in_range}
@@ -30,10 +29,9 @@ use Rattle.memory_core.specs.Bitmaps.{bits_in}
 use Rattle.memory_core.specs.Steps.{bare_entry, last_stamp, pages_of}
 use Rattle.memory_core.specs.StandsFor.{StandsFor, HoldsFor, spans_of, reports_of}
 use Rattle.memory_core.specs.declared.claims.OpenClaim.{OpenClaim}
-use Rattle.memory_core.proofs.ClearLemmas.{nat-cases}
 use Rattle.memory_core.proofs.HoldsLemmas.{OthersSame}
 use Rattle.memory_core.proofs.BitsLemmas.{cleared-same}
-use Rattle.memory_core.proofs.StepLemmas.{last-push, claim-mine, claim-other, same-is, not-same}
+use Rattle.memory_core.proofs.StepLemmas.{last-push, claim-mine, claim-other}
 use Rattle.memory_core.proofs.OpenLemmas.{kept-same, kept-other, cpus-set}
 use Rattle.memory_core.proofs.ReportLemmas.{Reports, opened, returned, went-on, closes, continues, next_claim}
 

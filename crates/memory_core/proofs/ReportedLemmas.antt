@@ -1,7 +1,8 @@
-use Rattle.std.proofs.Common.{◌≡◌, ℕ, ◌+◌, ◌<◌, ◌≤◌, Option, None, Some, List, ◌++◌, sym, ◌∙◌, ap, subst, arith, cond}
+use Rattle.std.proofs.Common.{◌≡◌, ℕ, ◌+◌, ◌^◌, ◌<◌, ◌≤◌, true, Option, None, Some, List, [], ◌∷◌, ◌++◌, max, sym, ◌∙◌, ap, subst, arith, cond}
 use Rattle.std.specs.Prelude.{slice_set, sum_by, IfSome}
 use Rattle.std.proofs.lemmas.List.Sums.{sum_by-set}
 use Rattle.guest_base.specs.Ranges.{in_range}
+use Rattle.guest_base.specs.declared.memory.Page.{Page}
 use Rattle.guest_base.specs.declared.memory.Units.{Units}
 use Rattle.event_core.specs.declared.boot.Boot.{Boot}
 use Rattle.event_core.specs.declared.entry.Entry.{Entry}
@@ -24,17 +25,18 @@ use Rattle.accept_sizes.specs.declared.accept.RunEnd.{RunEnd}
 use Rattle.accept_sizes.specs.declared.accept.RunEnd.TheVariants.{Whole, Stopped}
 use Rattle.accepting_ranges.specs.Claims.{kept_of}
 use Rattle.accepting_ranges.proofs.ClaimLemmas.{kept_of-inside}
-use Rattle.memory_core.specs.Answers.{ReportedBy, OthersKeep, answer_at}
+use Rattle.memory_core.specs.Answers.{ReportedBy, Closes, OthersKeep, answer_at}
 use Rattle.memory_core.specs.Bitmaps.{bits_in, SameBits, ClearedIn, next_of}
 use Rattle.memory_core.specs.Value.{MemoryValue, Handed, handed_to}
-use Rattle.memory_core.specs.Steps.{BringsTo}
+use Rattle.memory_core.specs.Steps.{BringsTo, bare_entry, last_stamp}
 use Rattle.memory_core.specs.StandsFor.{HoldsFor, handed_for, reports_of}
 use Rattle.memory_core.specs.declared.claims.OpenClaim.{OpenClaim}
 use Rattle.memory_core.proofs.BegunLemmas.{seen}
 use Rattle.memory_core.proofs.CloseLemmas.{ReportsIn}
 use Rattle.memory_core.proofs.HoldsLemmas.{kept-open}
+use Rattle.memory_core.proofs.KeptLemmas.{set-twice}
 use Rattle.memory_core.proofs.OpenLemmas.{handed-is, kept-other}
-use Rattle.memory_core.proofs.ReportLemmas.{opened, counted, others-states, next-is}
+use Rattle.memory_core.proofs.ReportLemmas.{opened, counted, others-states, next-is, next-few, next-facts, not-stopped}
 
 pub same-claim : (found : Option Claimed) (a b : Claimed) → found ≡ Some a → found ≡ Some b → a ≡ b
 same-claim found a b is_a is_b = let two : Some a ≡ Some b = sym is_a ∙ is_b in cc
@@ -105,6 +107,44 @@ module _ (boot : Boot) (entries : List Entry) (now : List ModuleCall) (table tab
         ∙ others-states boot (calls_of boot entries) now (claim_of boot entries) table table' bits bits' (kept_of claims) cpu o claim span end cleared r other b page differ has inside;
   }
 
-pub reported-closed : (old new : MemoryValue) (turn : Turn) (claim : Claimed) (calls : List ModuleCall) (end : RunEnd) (count : ℕ) → stop_of calls ≡ stopped_at end → next_run old.boot claim (stop_of calls) ≡ None → count ≡ cleared_by old.boot old.entries claim calls → ReportedBy old new turn claim calls (answer_at end count)
-reported-closed old new turn claim calls Whole count stop none is = (stop, none, is)
-reported-closed old new turn claim calls (Stopped page) count stop none is = λ no. let bad : Some page ≡ None = sym stop ∙ no in cc
+  -- the entry is the definition's
+  pub entries-are : (entries' : List Entry) (turn : Turn) (last : ℕ) (stopped : Option Page) (next : Option Units) → stopped ≡ stopped_at end → next ≡ next_of o.later.items o.opened end
+      → entries' ≡ entries ++ bare_entry turn last (Report o.run now stopped next) ∷ [] → entries' ≡ entries ++ bare_entry turn last (report_event boot claim now) ∷ []
+  entries-are entries' turn last stopped next at is made = made ∙ ap (λ e. entries ++ bare_entry turn last e ∷ []) (ap (λ p. Report o.run now p next) at ∙ event-is next is)
+
+  -- what is known of the run with which the claim goes on
+  pub record NextRun (run : Units) : Type 0 where
+    pub next : next_run boot claim (stop_of now) ≡ Some run
+    pub stop : stop_of now ≡ None
+    pub whole : next_run boot claim None ≡ Some run
+    pub some : 0 < run.count
+    pub fits : run.count ≤ o.room
+    pub set : (unit : ℕ) → in_range run.first run.count unit ≡ true → bits_in bits' unit ≡ true
+
+  pub next-opens : (next : Option Units) (run : Units) → next ≡ next_of o.later.items o.opened end → next ≡ Some run → NextRun run
+  next-opens next run found is =
+      let here : next_run boot claim (stop_of now) ≡ Some run = sym (found ∙ next-found) ∙ is in
+      let stop = not-stopped boot claim (stop_of now) run here in
+      let whole : next_run boot claim None ≡ Some run = ap (next_run boot claim) (sym stop) ∙ here in
+      let few = next-few boot (calls_of boot entries) now (claim_of boot entries) table table' bits bits' (kept_of claims) cpu o claim span end cleared r run whole in
+      record {
+        next = here;
+        stop = stop;
+        whole = whole;
+        some = few.0;
+        fits = few.1;
+        set = (next-facts boot (calls_of boot entries) now (claim_of boot entries) table table' bits bits' (kept_of claims) cpu o claim span end cleared r run whole).set;
+      }
+
+-- the lock's last stamp, as it is kept
+pub clock-kept : (boot : Boot) (entries : List Entry) (claims : List (Option OpenClaim)) (room clock last : ℕ) (v : MemoryValue) → seen boot entries claims room ≡ v → last ≡ last_stamp entries → clock ≤ max (2 ^ 64) (last_stamp v.entries) → clock ≤ max (2 ^ 64) last
+clock-kept boot entries claims room clock last v view is low = let P : ℕ → Type 0 = λ n. clock ≤ max (2 ^ 64) n in subst P (sym (is ∙ ap (λ (m : MemoryValue). last_stamp m.entries) view)) low
+
+-- the claim was taken away, and its next run is kept in its place
+pub kept-next : (claims left claims' : List (Option OpenClaim)) (cpu cpu' : ℕ) (k next : OpenClaim) → left ≡ slice_set claims cpu None → claims' ≡ slice_set left cpu' (Some k) → cpu' ≡ cpu → k ≡ next → claims' ≡ slice_set claims cpu (Some next)
+kept-next claims left claims' cpu cpu' k next rest is same made =
+    is ∙ ap (λ n. slice_set left n (Some k)) same ∙ ap (λ cs. slice_set cs cpu (Some k)) rest ∙ set-twice claims cpu None (Some k) ∙ ap (λ x. slice_set claims cpu (Some x)) made
+
+pub reported-closed : (old new : MemoryValue) (turn : Turn) (claim : Claimed) (calls : List ModuleCall) (end : RunEnd) (count : ℕ) → stop_of calls ≡ stopped_at end → next_run old.boot claim (stop_of calls) ≡ None → count ≡ cleared_by old.boot old.entries claim calls → Closes old new turn.cpu.0 → ReportedBy old new turn claim calls (answer_at end count)
+reported-closed old new turn claim calls Whole count stop none is closes = (stop, none, is, closes)
+reported-closed old new turn claim calls (Stopped page) count stop none is closes = (λ no. (let bad : Some page ≡ None = sym stop ∙ no in cc), closes)
