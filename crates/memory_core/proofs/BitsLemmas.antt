@@ -2,6 +2,7 @@ use Rattle.std.proofs.Common.{◌≡◌, ℕ, ◌+◌, ◌-◌, ◌*◌, ◌/◌
 use Rattle.std.specs.Prelude.{nat_lt, not, max, min}
 use Rattle.std.specs.Option.{option_and_then, option_map_or}
 use Rattle.std.proofs.Math.Nat.{mul-le-mul_right}
+use Rattle.guest_base.proofs.RangeLemmas.{in_range-intro, lt-of}
 use Rattle.guest_base.specs.Ranges.{in_range}
 use Rattle.guest_base.specs.Search.{any_such, count_such}
 use Rattle.guest_base.proofs.SearchLemmas.{any_such_same, count_such_same}
@@ -16,16 +17,13 @@ use Rattle.event_core.specs.Table.{Bits, IsTable}
 use Rattle.unaccepted_bitmap.proofs.TableFacts.{table_facts}
 use Rattle.memory_core.specs.Bitmaps.{bits_in, guarded_by, any_in, SameBits, PagesOf, ClearedIn, unit_first_of, unit_pages_of}
 use Rattle.memory_core.specs.Steps.{pages_of, unaccepted_count}
-use Rattle.memory_core.proofs.UnitsLemmas.{in_range-intro, first_run-same}
+use Rattle.memory_core.proofs.UnitsLemmas.{first_run-same}
 
 -- ---- the bitmap that is kept, over the boot's
 
 first-both : (b c : Bool) → (b && c) ≡ true → b ≡ true
 first-both true c h = refl
 first-both false c h = cc
-
-lt-of : (a b : ℕ) → nat_lt a b ≡ true → a < b
-lt-of a b h = grind arith
 
 -- the last unit of a run of set bits lies in the bitmap
 pub run-inside : (b : Bits) (run : Units) → 0 < run.count → ((unit : ℕ) → in_range run.first run.count unit ≡ true → bit_of b.bits unit ≡ true) → run.first + run.count ≤ unit_count b.bits

@@ -1,4 +1,5 @@
 use Rattle.std.proofs.Common.{◌≡◌, ◌≢◌, ℕ, ◌+◌, ◌<◌, ◌≤◌, Bool, true, false, Option, None, Some, List, ◌++◌, refl, sym, ◌∙◌, ap, subst, inl, inr, arith, cond}
+use Rattle.guest_base.proofs.RangeLemmas.{in_range-elim}
 use Rattle.guest_base.specs.Ranges.{in_range}
 use Rattle.guest_base.specs.Search.{any_such}
 use Rattle.guest_base.specs.declared.memory.Pages.{Pages}
@@ -20,7 +21,7 @@ use Rattle.memory_core.specs.Steps.{HasStates, pages_of}
 use Rattle.memory_core.specs.StandsFor.{HoldsFor, OpenStands, ClaimStands}
 use Rattle.memory_core.specs.declared.claims.OpenClaim.{OpenClaim}
 use Rattle.memory_core.proofs.RunLemmas.{Stands, OneRun, run-stands}
-use Rattle.memory_core.proofs.UnitsLemmas.{in_range-elim, not-met, runs-apart}
+use Rattle.memory_core.proofs.UnitsLemmas.{not-met, runs-apart}
 use Rattle.memory_core.proofs.ClearLemmas.{nat-cases}
 
 -- ---- claims, kept and open

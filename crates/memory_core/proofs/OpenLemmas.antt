@@ -4,6 +4,7 @@ use Rattle.std.specs.declared.alloc.Global.{Global}
 use Rattle.std.proofs.Math.ListN.{get_or-map}
 use Rattle.std.proofs.lemmas.Bool.{cases_Bool}
 use Rattle.std.proofs.lemmas.List.{get_or-set_same, get_or-set_other}
+use Rattle.guest_base.proofs.RangeLemmas.{in_range-elim, lt-of}
 use Rattle.guest_base.specs.Ranges.{in_range}
 use Rattle.guest_base.proofs.SearchLemmas.{first_such_none, first_such_is}
 use Rattle.guest_base.specs.declared.memory.Pages.{Pages}
@@ -28,13 +29,10 @@ use Rattle.memory_core.specs.StandsFor.{StandsFor, pieces_for, handed_for}
 use Rattle.memory_core.specs.declared.claims.OpenClaim.{OpenClaim}
 use Rattle.memory_core.proofs.ClearLemmas.{nat-cases}
 use Rattle.memory_core.proofs.HoldsLemmas.{open-kept, kept-open, other-unit}
-use Rattle.memory_core.proofs.UnitsLemmas.{in_range-elim, runs-apart}
+use Rattle.memory_core.proofs.UnitsLemmas.{runs-apart}
 use Rattle.memory_core.proofs.StepLemmas.{fewer}
 
 -- ---- kept claims and open ones
-
-lt-of : (a b : ℕ) → nat_lt a b ≡ true → a < b
-lt-of a b h = grind arith
 
 pub apart-of : (a b : Units) → ¬ Meet a b → units_meet a b ≡ false
 apart-of a b apart =

@@ -1,11 +1,12 @@
-use Rattle.std.proofs.Common.{◌≡◌, ℕ, zero, suc, ◌≤◌, Bool, true, false, Option, None, Some, List, [], ◌∷◌, refl, sym, ◌∙◌, ap, subst, arith, length, append-nil}
-use Rattle.std.specs.Prelude.{sum_by, slice_index_or, replicate, map, ◌/◌, nat_lt, Vec}
+use Rattle.std.proofs.Common.{◌≡◌, ℕ, zero, suc, ◌*◌, ◌^◌, ◌≤◌, Bool, true, false, Option, None, Some, List, [], ◌∷◌, refl, sym, ◌∙◌, ap, subst, arith, length, append-nil}
+use Rattle.std.specs.Prelude.{sum_by, slice_index_or, replicate, map, ◌/◌, ◌%◌, ◌==◌, nat_lt, Vec}
 use Rattle.std.specs.declared.alloc.Global.{Global}
 use Rattle.std.specs.List.{AllByRecursion}
 use Rattle.std.proofs.lemmas.List.Sums.{sum_by-cons}
+use Rattle.std.proofs.Math.Nat.{mul-mod_left}
 use Rattle.guest_base.specs.declared.memory.HostRun.{HostRun}
 use Rattle.guest_base.specs.declared.memory.PageState.TheVariants.{Pending}
-use Rattle.guest_base.proofs.SearchLemmas.{any_such-true}
+use Rattle.guest_base.proofs.SearchLemmas.{any_such-true, any_such_is}
 use Rattle.event_core.specs.declared.boot.Boot.{Boot}
 use Rattle.event_core.specs.declared.boot.Descriptor.{Descriptor}
 use Rattle.event_core.specs.declared.entry.Entry.{Entry}
@@ -13,11 +14,12 @@ use Rattle.event_core.specs.declared.module_call.ModuleCall.{ModuleCall}
 use Rattle.event_core.specs.Boot.{BootRight, Uncalled}
 use Rattle.event_core.specs.Calls.{calls_of, SoundCalls}
 use Rattle.event_core.specs.Claims.{Claimed, claim_of}
-use Rattle.event_core.specs.Given.{FitsGiven}
+use Rattle.event_core.specs.Given.{FitsGiven, unit_by, base_by}
 use Rattle.event_core.specs.Map.{MapRules}
 use Rattle.event_core.specs.MemoryRows.{page_state}
 use Rattle.event_core.specs.Runs.{state_in as first_state_of}
-use Rattle.event_core.specs.Table.{Bits}
+use Rattle.event_core.specs.Stub.{default_unit, least_start, unaccepted}
+use Rattle.event_core.specs.Table.{Bits, is_unit}
 use Rattle.event_core.specs.Units.{bit_of, bit_after, is_marked, unit_count, unit_first, unit_pages}
 use Rattle.event_core.proofs.BootFacts.{unit-size, IsSize, TakesNone, set-pending, ram-low, boot-marks, boot-takes-none}
 use Rattle.page_module.specs.States.{state_in}
@@ -81,6 +83,15 @@ second_of_two : (b c : Bool) → elim b as (λ _. Bool) [ true ↦ c | false ↦
 second_of_two true c h = h
 second_of_two false c h = cc
 
+-- a unit is one that a table may have, and the first one begins on a unit's border
+unit-right : (map : List Descriptor) (table : Option Bits) → FitsGiven map table → is_unit (unit_by table) ≡ true
+unit-right map None fits = any_such_is (λ order. default_unit == 4096 * 2 ^ order) 0 10 9 (omega arith) (omega arith) refl
+unit-right map (Some table) fits = fits.is_table.unit_is
+
+base-right : (map : List Descriptor) (table : Option Bits) → FitsGiven map table → base_by map table % unit_by table ≡ 0
+base-right map None fits = mul-mod_left (least_start (unaccepted map) / default_unit) default_unit
+base-right map (Some table) fits = fits.is_table.aligned
+
 pub booted : (map : List Descriptor) (hosts : List HostRun) (table : Option Bits) (slots areas cpus : ℕ) (boot : Boot) → MapRules map hosts → FitsGiven map table → Uncalled map hosts table slots areas cpus boot → boot.cpus ≤ 64 → IsBooted boot
 booted map hosts table slots areas cpus boot rules fits plain few =
     let size = subst (λ u. IsSize (u / 4096)) (sym plain.unit) (unit-size map table fits) in
@@ -89,6 +100,8 @@ booted map hosts table slots areas cpus boot rules fits plain few =
       low = ram-low map hosts table slots areas cpus boot rules plain;
       some = size.some;
       small = size.small;
+      unit_is = ap is_unit plain.unit ∙ unit-right map table fits;
+      aligned = ap (λ u. boot.base % u) plain.unit ∙ ap (λ b. b % unit_by table) plain.base ∙ base-right map table fits;
       cpus = few;
     }
 

@@ -1,6 +1,7 @@
 use Rattle.std.proofs.Common.{◌≡◌, ◌≢◌, ℕ, ◌+◌, ◌-◌, ◌*◌, ◌^◌, ◌<◌, ◌≤◌, true, false, Option, None, Some, List, [], ◌∷◌, ◌++◌, refl, sym, ◌∙◌, ap, subst, arith, cond}
 use Rattle.std.specs.Prelude.{◌==◌, drop}
 use Rattle.std.proofs.Math.Nat.{mul-le-mul_right}
+use Rattle.guest_base.proofs.RangeLemmas.{in_range-intro, in_range-elim, in_range-past}
 use Rattle.guest_base.specs.Ranges.{in_range}
 use Rattle.guest_base.specs.Search.{any_such}
 use Rattle.guest_base.specs.declared.memory.Page.{Page}
@@ -29,7 +30,7 @@ use Rattle.memory_core.specs.declared.claims.OpenClaim.{OpenClaim}
 use Rattle.memory_core.proofs.KeptLemmas.{kept-first, kept-rest}
 use Rattle.memory_core.proofs.HoldsLemmas.{open-kept, kept-open, holds-open, holds-close, OthersSame, Returns, one-run, stands-virtual, other-unit, others-page, put_back}
 use Rattle.memory_core.proofs.RunLemmas.{run-stands, run-cleared}
-use Rattle.memory_core.proofs.UnitsLemmas.{in_range-elim, in_range-intro, in_range-past, first_run-facts, IsRunIn, runs-apart, run-counts, run-page-some, run-low}
+use Rattle.memory_core.proofs.UnitsLemmas.{first_run-facts, IsRunIn, runs-apart, run-counts, run-page-some, run-low}
 use Rattle.memory_core.proofs.BitsLemmas.{cleared-bits, cleared-count}
 use Rattle.memory_core.proofs.StepLemmas.{same-is, not-same}
 use Rattle.memory_core.proofs.OpenLemmas.{run-in, has-states, runs-few, room-left}

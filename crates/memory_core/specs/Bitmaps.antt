@@ -45,7 +45,9 @@ unit_first_of b unit = b.base / 4096 + unit * unit_pages_of b
 pub record ClearedBy (old new : Bits) (pending : ℕ → Bool) (first count : ℕ) : Type 0 where
   pub size : length new.bits ≡ length old.bits
   pub each : (unit : ℕ) → bit_of new.bits unit
-      ≡ (if in_range first count unit then bit_of old.bits unit && any_such pending (unit_first_of old unit) (unit_pages_of old) else bit_of old.bits unit)
+      ≡ (if in_range first count unit
+      then bit_of old.bits unit && any_such pending (unit_first_of old unit) (unit_pages_of old)
+      else bit_of old.bits unit)
 
 -- the kept bitmap is the boot's, but for the bits
 abbrev pub SameBits : Boot → Option Bits → Type 0
@@ -62,12 +64,17 @@ abbrev pub PagesOf : Option Bits → Units → Pages → Type 0
 PagesOf None run pages = ⊥
 PagesOf (Some b) run pages = (pages.first ≡ unit_first_of b run.first) × (pages.count ≡ run.count * unit_pages_of b) × (pages.first + pages.count < 2 ^ 40)
 
+-- the number of a run's units without a pending page
+abbrev pub cleared_count : Bits → (ℕ → Bool) → Units → ℕ
+cleared_count b pending run =
+    count_such (λ unit. not (any_such pending (unit_first_of b unit) (unit_pages_of b))) run.first run.count
+
 -- of a run's units those without a pending page were cleared, this many of them
 pub record ClearedRun (old new : Bits) (pending : ℕ → Bool) (run : Units) (cleared : ℕ) : Type 0 where
   pub unit : new.unit ≡ old.unit
   pub base : new.base ≡ old.base
   pub bits : ClearedBy old new pending run.first run.count
-  pub count : cleared ≡ count_such (λ unit. not (any_such pending (unit_first_of old unit) (unit_pages_of old))) run.first run.count
+  pub count : cleared ≡ cleared_count old pending run
 
 abbrev pub ClearedIn : Option Bits → Option Bits → (ℕ → Bool) → Units → ℕ → Type 0
 ClearedIn (Some old) (Some new) pending run cleared = ClearedRun old new pending run cleared

@@ -99,7 +99,8 @@ impl Model for Memory {
     } };
 
     ghost invariant = { λ m.
-        StandsFor m.boot.value m.entries m.last m.table m.bits m.accepting m.unit_pages m.kept m.room
+        StandsFor m.boot.value m.entries m.last m.table m.bits m.accepting
+        m.unit_pages m.kept m.room
         × IsSpare m.spare m.room };
 }
 
@@ -116,7 +117,8 @@ impl Memory {
     ) -> Result<Memory, AllocError>
         requires right { (descriptors : List Descriptor) × (table : Option Bits) × (slots : ℕ)
             × MapRules descriptors boot.now.hosts × FitsGiven descriptors table
-            × BootRight descriptors boot.now.hosts table slots boot.now.areas boot.now.cpus boot.now }
+            × BootRight descriptors boot.now.hosts table slots
+            boot.now.areas boot.now.cpus boot.now }
         requires sound { SoundCalls (first_state_of boot.now.ram) boot.now.calls }
         requires cpus { boot.now.cpus ≤ 64 }
         requires states { (page : ℕ) → state_in table.runs page
@@ -191,8 +193,8 @@ impl Memory {
 
     /// The first maximal run of unaccepted units from `from` on and below `to`, clipped to these.
     pub fn next_run(&self, from: Unit, to: Unit) -> Option<Units>
-        ensures { result
-            ≡ first_run (bit_after self.now.boot (calls_of self.now.boot self.now.entries)) from.0 to.0 }
+        ensures { result ≡ first_run
+            (bit_after self.now.boot (calls_of self.now.boot self.now.entries)) from.0 to.0 }
     {
         run_from(&self.bits, from.0, to.0)
     }
@@ -228,8 +230,8 @@ impl Memory {
     /// room goes with the claim, which needs no more until it closes.
     pub fn begin_accept(&mut self, turn: &mut Turn, start: u64, len: u64) -> Begin
         requires range { IsByteRange start len }
-        requires step { MayBegin self.old turn.old
-            (unaccepted_count self.old.boot self.old.entries (guarded_units self.old.boot start len)) }
+        requires step { MayBegin self.old turn.old (unaccepted_count
+            self.old.boot self.old.entries (guarded_units self.old.boot start len)) }
         ensures begun { BegunBy self.old self.new turn.old
             (guarded_units self.old.boot start len) result }
         ensures blocked { IsBlocked result → (self.new ≡ self.old) × (turn.new ≡ turn.old) }
@@ -282,7 +284,8 @@ impl Memory {
         requires out { IfSome (handed_to self.old turn.old.cpu.0) (λ h. h.ticket ≡ span.ticket) }
         requires brings { (claim : Claimed)
             × (claim_of self.old.boot self.old.entries turn.old.cpu.0 ≡ Some claim)
-            × BringsTo self.old.boot (calls_of self.old.boot self.old.entries) claim.run span calls end }
+            × BringsTo self.old.boot (calls_of self.old.boot self.old.entries)
+            claim.run span calls end }
         requires clock { turn.old.clock ≤ max (2 ^ 64) (last_stamp self.old.entries) }
         ensures reported { (claim : Claimed)
             → claim_of self.old.boot self.old.entries turn.old.cpu.0 ≡ Some claim

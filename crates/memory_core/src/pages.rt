@@ -1,11 +1,11 @@
 //! Pages of units.
-ghost use Rattle.std.specs.Prelude.{◌≡◌, ℕ, ◌+◌, ◌*◌, ◌^◌, ◌<◌, ◌≤◌, true, None, Some, not};
+ghost use Rattle.std.specs.Prelude.{◌≡◌, ℕ, ◌+◌, ◌*◌, ◌^◌, ◌<◌, ◌≤◌, true, None, Some};
 ghost use Rattle.guest_base.specs.Ranges.{in_range};
-ghost use Rattle.guest_base.specs.Search.{any_such, count_such};
+ghost use Rattle.guest_base.specs.Search.{any_such};
 ghost use Rattle.event_core.specs.Units.{unit_count, bit_of};
 ghost use Rattle.accept_sizes.specs.Accepts.{pending_of};
 ghost use Rattle.accept_sizes.specs.Ends.{stopped_at};
-ghost use Rattle.memory_core.specs.Bitmaps.{bits_in, unit_pages_of, unit_first_of, ClearedBy, PagesOf, ClearedIn};
+ghost use Rattle.memory_core.specs.Bitmaps.{bits_in, unit_pages_of, unit_first_of, cleared_count, ClearedBy, PagesOf, ClearedIn};
 
 use accept_sizes::RunEnd;
 use guest_base::{Page, Pages, Units};
@@ -29,7 +29,8 @@ fn pages_of(bits: &Bitmap, units: Units) -> Pages
 /// The pages of a run of unaccepted units, of which there is one at least.
 pub fn run_pages(bits: &Option<Bitmap>, run: Units) -> Pages
     requires some { 0 < run.count }
-    requires set { (unit : ℕ) → in_range run.first run.count unit ≡ true → bits_in bits.now unit ≡ true }
+    requires set { (unit : ℕ) → in_range run.first run.count unit ≡ true
+        → bits_in bits.now unit ≡ true }
     ensures { PagesOf bits.now run result }
 {
     match bits {
@@ -56,7 +57,7 @@ fn clear_accepted(bits: &mut Bitmap, span: &Span, run: Units) -> u64
     ensures base { bits.new.base ≡ bits.old.base }
     ensures cleared { ClearedBy bits.old bits.new (pending_of span.now) run.first run.count }
     ensures few { result ≤ run.count }
-    ensures count { result ≡ count_such (λ unit. not (any_such (pending_of span.now) (unit_first_of bits.old unit) (unit_pages_of bits.old))) run.first run.count }
+    ensures count { result ≡ cleared_count bits.old (pending_of span.now) run }
 {
     let mut cleared = 0;
     for unit in run.first..run.first + run.count {
@@ -83,7 +84,8 @@ fn clear_accepted(bits: &mut Bitmap, span: &Span, run: Units) -> u64
 pub fn clear_run(bits: &mut Option<Bitmap>, span: &Span, run: Units) -> u64
     requires some { 0 < run.count }
     requires end { run.first + run.count < 2 ^ 64 }
-    requires set { (unit : ℕ) → in_range run.first run.count unit ≡ true → bits_in bits.old unit ≡ true }
+    requires set { (unit : ℕ) → in_range run.first run.count unit ≡ true
+        → bits_in bits.old unit ≡ true }
     ensures cleared { ClearedIn bits.old bits.new (pending_of span.now) run result }
     ensures few { result ≤ run.count }
 {
