@@ -34,8 +34,10 @@ pub record UsesOne (old new : MemoryValue) : Type 0 where
   pub out : new.out ≡ old.out
   pub room : new.room + 1 ≡ old.room
 
--- nothing is in the way, and a run is out as the first one of a claim; but for an entry and the run, all room is the claim's
-pub record Opens (old new : MemoryValue) (cpu : ℕ) (units : Option Units) (span : Taken) : Type 0 where
+-- nothing is in the way, and a run is out as the first one of a claim; but for an entry and the
+-- run, all room is the claim's
+pub record Opens (old new : MemoryValue) (cpu : ℕ) (units : Option Units)
+    (span : Taken) : Type 0 where
   pub run : Units
   pub free : in_the_way old.boot old.entries units ≡ None
   pub first : run_of_claim old.boot old.entries units ≡ Some run
@@ -46,7 +48,8 @@ pub record Opens (old new : MemoryValue) (cpu : ℕ) (units : Option Units) (spa
 -- a begun acceptance of guarded units
 abbrev pub BegunBy : MemoryValue → MemoryValue → Turn → Option Units → Begin → Type 0
 BegunBy old new turn units Clear =
-    (in_the_way old.boot old.entries units ≡ None) × (run_of_claim old.boot old.entries units ≡ None) × UsesOne old new
+    (in_the_way old.boot old.entries units ≡ None)
+    × (run_of_claim old.boot old.entries units ≡ None) × UsesOne old new
 BegunBy old new turn units (IsClaimed span) = Opens old new turn.cpu.0 units span
 BegunBy old new turn units (Blocked met) = IsMet old units met
 
@@ -56,20 +59,25 @@ IsBlocked (IsClaimed span) = ⊥
 IsBlocked (Blocked met) = Unit {0}
 
 -- a claim goes on with its next run, for which its room is used
-pub record GoesOn (old new : MemoryValue) (cpu : ℕ) (claim : Claimed) (calls : List ModuleCall) (span : Taken) : Type 0 where
+pub record GoesOn (old new : MemoryValue) (cpu : ℕ) (claim : Claimed)
+    (calls : List ModuleCall) (span : Taken) : Type 0 where
   pub run : Units
   pub next : next_run old.boot claim (stop_of calls) ≡ Some run
   pub out : IsOutFor new cpu run span
-  pub kept : (handed : Handed) → handed_to old cpu ≡ Some handed → out.room + run.count ≡ handed.room
+  pub kept : (handed : Handed) → handed_to old cpu ≡ Some handed
+      → out.room + run.count ≡ handed.room
   pub left : new.room ≡ 0
 
--- a claim is closed: nothing is out any more with its processor, and the room for the next step stays
+-- a claim is closed: nothing is out any more with its processor, and the room for the next step
+-- stays
 pub record Closes (old new : MemoryValue) (cpu : ℕ) : Type 0 where
   pub none : handed_to new cpu ≡ None
   pub room : new.room ≡ old.room
 
--- a reported run of a claim: the acceptance stopped, or the claim goes on, or no run is left and this many units were cleared
-abbrev pub ReportedBy : MemoryValue → MemoryValue → Turn → Claimed → List ModuleCall → Reported → Type 0
+-- a reported run of a claim: the acceptance stopped, or the claim goes on, or no run is left and
+-- this many units were cleared
+abbrev pub ReportedBy : MemoryValue → MemoryValue → Turn → Claimed → List ModuleCall → Reported
+    → Type 0
 ReportedBy old new turn claim calls (Next span) = GoesOn old new turn.cpu.0 claim calls span
 ReportedBy old new turn claim calls (Closed count) =
     (stop_of calls ≡ None) × (next_run old.boot claim (stop_of calls) ≡ None)
@@ -81,7 +89,8 @@ abbrev pub answer_at : RunEnd → ℕ → Reported
 answer_at end.Whole cleared = Closed cleared
 answer_at (end.Stopped page) cleared = Stopped
 
--- a step of one processor leaves what is out with the others: the claims, and the states of their pages
+-- a step of one processor leaves what is out with the others: the claims, and the states of their
+-- pages
 pub record OthersKeep (old new : MemoryValue) (cpu : ℕ) : Type 0 where
   pub handed : (other : ℕ) → other ≢ cpu → handed_to new other ≡ handed_to old other
   pub states : (other : ℕ) (claim : Claimed) (page : ℕ) → other ≢ cpu
@@ -94,13 +103,16 @@ pub record OthersKeep (old new : MemoryValue) (cpu : ℕ) : Type 0 where
 abbrev pub NoneOpen : MemoryValue → Type 0
 NoneOpen memory = (cpu : ℕ) → claim_of memory.boot memory.entries cpu ≡ None
 
--- The table of a memory: the pages of the runs that are out are in no run of it, and every other page has its state after the
--- entries. The spans that are out with processors may be put back, and where no claim is open none is out.
+-- The table of a memory: the pages of the runs that are out are in no run of it, and every other
+-- page has its state after the entries. The spans that are out with processors may be put back, and
+-- where no claim is open none is out.
 pub record GivesTable (memory : MemoryValue) (table : Table) : Type 0 where
   pub states : (page : ℕ) → IsInTable memory.boot (claim_of memory.boot memory.entries) page
       → state_in table.runs page ≡ page_state memory.boot (calls_of memory.boot memory.entries) page
-  pub away : (cpu : ℕ) (claim : Claimed) (page : ℕ) → claim_of memory.boot memory.entries cpu ≡ Some claim
+  pub away : (cpu : ℕ) (claim : Claimed) (page : ℕ)
+      → claim_of memory.boot memory.entries cpu ≡ Some claim
       → in_range (pages_first memory.boot claim.run) (pages_count memory.boot claim.run) page ≡ true
       → state_in table.runs page ≡ None
-  pub out : (cpu : ℕ) (handed : Handed) → handed_to memory cpu ≡ Some handed → is_out table.out handed.ticket ≡ true
+  pub out : (cpu : ℕ) (handed : Handed) → handed_to memory cpu ≡ Some handed
+      → is_out table.out handed.ticket ≡ true
   pub none : NoneOpen memory → table.out ≡ []

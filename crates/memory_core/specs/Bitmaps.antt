@@ -52,7 +52,8 @@ pub record ClearedBy (old new : Bits) (pending : ℕ → Bool) (first count : �
 -- the kept bitmap is the boot's, but for the bits
 abbrev pub SameBits : Boot → Option Bits → Type 0
 SameBits boot None = boot.bits ≡ []
-SameBits boot (Some b) = (b.unit ≡ boot.unit) × (b.base ≡ boot.base) × (length b.bits ≡ length boot.bits)
+SameBits boot (Some b) =
+    (b.unit ≡ boot.unit) × (b.base ≡ boot.base) × (length b.bits ≡ length boot.bits)
 
 -- the bitmap says which units are unaccepted after calls
 pub record BitsAfter (boot : Boot) (calls : List ModuleCall) (bits : Option Bits) : Type 0 where
@@ -62,15 +63,19 @@ pub record BitsAfter (boot : Boot) (calls : List ModuleCall) (bits : Option Bits
 -- the pages of a run of units
 abbrev pub PagesOf : Option Bits → Units → Pages → Type 0
 PagesOf None run pages = ⊥
-PagesOf (Some b) run pages = (pages.first ≡ unit_first_of b run.first) × (pages.count ≡ run.count * unit_pages_of b) × (pages.first + pages.count < 2 ^ 40)
+PagesOf (Some b) run pages =
+    (pages.first ≡ unit_first_of b run.first) × (pages.count ≡ run.count * unit_pages_of b)
+    × (pages.first + pages.count < 2 ^ 40)
 
 -- the number of a run's units without a pending page
 abbrev pub cleared_count : Bits → (ℕ → Bool) → Units → ℕ
 cleared_count b pending run =
-    count_such (λ unit. not (any_such pending (unit_first_of b unit) (unit_pages_of b))) run.first run.count
+    count_such (λ unit. not (any_such pending (unit_first_of b unit) (unit_pages_of b)))
+    run.first run.count
 
 -- of a run's units those without a pending page were cleared, this many of them
-pub record ClearedRun (old new : Bits) (pending : ℕ → Bool) (run : Units) (cleared : ℕ) : Type 0 where
+pub record ClearedRun (old new : Bits) (pending : ℕ → Bool) (run : Units)
+    (cleared : ℕ) : Type 0 where
   pub unit : new.unit ≡ old.unit
   pub base : new.base ≡ old.base
   pub bits : ClearedBy old new pending run.first run.count
@@ -84,7 +89,8 @@ ClearedIn (Some old) None pending run cleared = ⊥
 -- the maximal runs of numbers that pass a test, from one on and below `end`, rising
 abbrev pub AreRunsFrom : (ℕ → Bool) → ℕ → ℕ → List Units → Type 0
 AreRunsFrom test from end [] = first_run test from end ≡ None
-AreRunsFrom test from end (run ∷ runs) = (first_run test from end ≡ Some run) × AreRunsFrom test (units_end run) end runs
+AreRunsFrom test from end (run ∷ runs) =
+    (first_run test from end ≡ Some run) × AreRunsFrom test (units_end run) end runs
 
 -- the run behind this many of a list, where the acceptance before it didn't stop
 abbrev pub next_of : List Units → ℕ → RunEnd → Option Units

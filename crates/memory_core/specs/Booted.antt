@@ -8,11 +8,13 @@ use Rattle.event_core.specs.Runs.{state_in}
 use Rattle.event_core.specs.Table.{is_unit}
 use Rattle.event_core.specs.Units.{bit_of, bit_after, unit_first, unit_pages, is_marked}
 
--- What holds of a boot that a memory begins with: the pages of a set unit are pending at first, RAM lies in memory, a unit is a
--- power of two from 1 to 512 pages, the first one begins on a unit's border, and there are at most 64 processors.
+-- What holds of a boot that a memory begins with: the pages of a set unit are pending at first, RAM
+-- lies in memory, a unit is a power of two from 1 to 512 pages, the first one begins on a unit's
+-- border, and there are at most 64 processors.
 pub record IsBooted (boot : Boot) : Type 0 where
   pub pending : (unit page : ℕ) → bit_of boot.bits unit ≡ true
-      → in_range (unit_first boot unit) (unit_pages boot) page ≡ true → state_in boot.ram page ≡ Some Pending
+      → in_range (unit_first boot unit) (unit_pages boot) page ≡ true
+      → state_in boot.ram page ≡ Some Pending
   pub low : (page : ℕ) → state_in boot.ram page ≢ None → page < 2 ^ 28
   pub some : 0 < unit_pages boot
   pub small : unit_pages boot ≤ 512

@@ -31,14 +31,22 @@ last_stamp entries = fold (λ last (e : Entry). max last e.stamp) 0 entries
 
 -- a bare entry that a processor makes under the memory's lock
 abbrev pub bare_entry : Turn → ℕ → Event → Entry
-bare_entry turn last event = record { stamp = max turn.clock last + 1; cpu = turn.cpu; cmd = turn.cmd; place = Memory; event = event; reply = None }
+bare_entry turn last event = record {
+  stamp = max turn.clock last + 1;
+  cpu = turn.cpu;
+  cmd = turn.cmd;
+  place = Memory;
+  event = event;
+  reply = None;
+}
 
 -- a range of bytes has a byte, and ends at 2^40 at most
 pub record IsByteRange (start len : ℕ) : Type 0 where
   pub some : 1 ≤ len
   pub end : start + len ≤ 2 ^ 40
 
--- a processor may begin a step that accepts this many units: it has no open claim, stamps are left, and there is room
+-- a processor may begin a step that accepts this many units: it has no open claim, stamps are left,
+-- and there is room
 pub record MayBegin (memory : MemoryValue) (turn : Turn) (units : ℕ) : Type 0 where
   pub cpu : turn.cpu.0 < memory.boot.cpus
   pub free : claim_of memory.boot memory.entries turn.cpu.0 ≡ None
@@ -59,7 +67,8 @@ pub record Appends (old new : MemoryValue) (turn turned : Turn) (event : Event) 
 -- the number of unaccepted units among units, after memory's entries
 abbrev pub unaccepted_count : Boot → List Entry → Option Units → ℕ
 unaccepted_count boot memory units =
-    option_map_or (λ (u : Units). count_such (bit_after boot (calls_of boot memory)) u.first u.count) units 0
+    option_map_or
+    (λ (u : Units). count_such (bit_after boot (calls_of boot memory)) u.first u.count) units 0
 
 -- a page is in the table: it is none of a run that is out
 abbrev pub IsInTable : Boot → (ℕ → Option Claimed) → ℕ → Type 0
@@ -72,10 +81,12 @@ abbrev pub pages_of : Boot → Units → Pages
 pages_of boot units = record { first = pages_first boot units; count = pages_count boot units }
 
 -- a span has the pages of a run of units, in the states that they have after calls
-pub record HasStates (boot : Boot) (calls : List ModuleCall) (run : Units) (span : Taken) : Type 0 where
+pub record HasStates (boot : Boot) (calls : List ModuleCall) (run : Units)
+    (span : Taken) : Type 0 where
   pub pages : span.ticket.pages ≡ pages_of boot run
   pub states : (page : ℕ) → state_in span.runs page
-      ≡ (if in_range (pages_first boot run) (pages_count boot run) page then page_state boot calls page else None)
+      ≡ (if in_range (pages_first boot run) (pages_count boot run) page
+      then page_state boot calls page else None)
 
 -- the span is out with a processor, for its open run; its pages end within those of memory
 pub record IsOutFor (memory : MemoryValue) (cpu : ℕ) (run : Units) (span : Taken) : Type 0 where
@@ -85,7 +96,8 @@ pub record IsOutFor (memory : MemoryValue) (cpu : ℕ) (run : Units) (span : Tak
   pub low : span.ticket.pages.first + span.ticket.pages.count ≤ 2 ^ 28
 
 -- calls brought the span from the states in which it is out, with this end
-pub record BringsTo (boot : Boot) (before : List ModuleCall) (run : Units) (span : Taken) (calls : List ModuleCall) (end : RunEnd) : Type 0 where
+pub record BringsTo (boot : Boot) (before : List ModuleCall) (run : Units) (span : Taken)
+    (calls : List ModuleCall) (end : RunEnd) : Type 0 where
   pub taken : Taken
   pub has : HasStates boot before run taken
   pub accepts : Accepts boot.hosts taken span calls
