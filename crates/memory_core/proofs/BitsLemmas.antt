@@ -1,7 +1,7 @@
 use Rattle.std.proofs.Common.{◌≡◌, ℕ, ◌+◌, ◌-◌, ◌*◌, ◌/◌, ◌^◌, ◌<◌, ◌≤◌, Bool, true, false, ◌&&◌, Option, None, Some, List, refl, sym, ◌∙◌, ap, arith, cond}
 use Rattle.std.specs.Prelude.{nat_lt, not, max, min}
 use Rattle.std.specs.Option.{option_and_then, option_map_or}
-use Rattle.std.proofs.Math.Nat.{mul-le-mul_right}
+use Rattle.std.proofs.Math.Nat.{mul-le-mul_right, mul-le-mul_left}
 use Rattle.guest_base.proofs.RangeLemmas.{in_range-intro, lt-of}
 use Rattle.guest_base.specs.Ranges.{in_range}
 use Rattle.guest_base.specs.Search.{any_such, count_such}
@@ -52,6 +52,16 @@ pages-low b units is inside =
     let small = facts.small in
     let end : b.base / 4096 + units.first * size + units.count * size < 2 ^ 29 = omega (arith, all, under, parts, below, small) in
     record { starts = omega (arith, end); lasts = omega (arith, end); ends = end }
+
+-- units of a bitmap end far below 2^64
+pub units-low : (b : Bits) (units : Units) → IsTable b → units.first + units.count ≤ unit_count b.bits → units.first + units.count < 2 ^ 64
+units-low b units is inside =
+    let facts = table_facts b is in
+    let some : 1 ≤ b.unit = (let s = facts.some in omega (arith, s)) in
+    let more = mul-le-mul_left (unit_count b.bits) some in
+    let below = facts.below in
+    let small = facts.small in
+    omega (arith, more, below, small, inside)
 
 pub set-here : (b : Bits) (bits : Option Bits) (run : Units) → bits ≡ Some b → ((unit : ℕ) → in_range run.first run.count unit ≡ true → bits_in bits unit ≡ true) → (unit : ℕ) → in_range run.first run.count unit ≡ true → bit_of b.bits unit ≡ true
 set-here b bits run is all unit inside = sym (ap (λ o. bits_in o unit) is) ∙ all unit inside

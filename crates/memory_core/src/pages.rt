@@ -26,6 +26,15 @@ fn pages_of(bits: &Bitmap, units: Units) -> Pages
     }
 }
 
+/// The end of units of a bitmap, all of which lie far below 2^64.
+fn end_of(bits: &Bitmap, units: Units) -> u64
+    requires { units.first + units.count ≤ unit_count bits.now.bits }
+    ensures { result ≡ units.first + units.count }
+{
+    let _ = bits.unit();
+    units.first + units.count
+}
+
 /// The pages of a run of unaccepted units, of which there is one at least.
 pub fn run_pages(bits: &Option<Bitmap>, run: Units) -> Pages
     requires some { 0 < run.count }
@@ -51,8 +60,7 @@ fn has_pending(span: &Span, first: u64, count: u64) -> bool
 
 /// Clears the bits of the units in which no page of the span is pending, and tells how many.
 fn clear_accepted(bits: &mut Bitmap, span: &Span, run: Units) -> u64
-    requires inside { run.first + run.count ≤ unit_count bits.old.bits }
-    requires end { run.first + run.count < 2 ^ 64 }
+    requires { run.first + run.count ≤ unit_count bits.old.bits }
     ensures unit { bits.new.unit ≡ bits.old.unit }
     ensures base { bits.new.base ≡ bits.old.base }
     ensures cleared { ClearedBy bits.old bits.new (pending_of span.now) run.first run.count }
@@ -60,7 +68,7 @@ fn clear_accepted(bits: &mut Bitmap, span: &Span, run: Units) -> u64
     ensures count { result ≡ cleared_count bits.old (pending_of span.now) run }
 {
     let mut cleared = 0;
-    for unit in run.first..run.first + run.count {
+    for unit in run.first..end_of(bits, run) {
         let pages = pages_of(
             bits,
             Units {
@@ -83,7 +91,6 @@ fn clear_accepted(bits: &mut Bitmap, span: &Span, run: Units) -> u64
 /// `accept_memory`, which clears the bits of the units that it accepted).
 pub fn clear_run(bits: &mut Option<Bitmap>, span: &Span, run: Units) -> u64
     requires some { 0 < run.count }
-    requires end { run.first + run.count < 2 ^ 64 }
     requires set { (unit : ℕ) → in_range run.first run.count unit ≡ true
         → bits_in bits.old unit ≡ true }
     ensures cleared { ClearedIn bits.old bits.new (pending_of span.now) run result }
