@@ -26,12 +26,12 @@ use Rattle.page_module.specs.States.{state_in}
 use Rattle.page_module.specs.Tables.{Table, is_out}
 use Rattle.page_module.specs.declared.ticket.Ticket.{Ticket}
 use Rattle.accepting_ranges.specs.Claims.{kept_of}
-use Rattle.memory_core.specs.Answers.{GivesTable}
-use Rattle.memory_core.specs.Value.{Handed}
+use Rattle.memory_core.specs.Answers.{GivesTable, NoneOpen}
+use Rattle.memory_core.specs.Value.{Handed, MemoryValue}
 use Rattle.memory_core.proofs.BegunLemmas.{seen}
 use Rattle.memory_core.specs.Bitmaps.{bits_in, BitsAfter}
 use Rattle.memory_core.specs.Booted.{IsBooted, UnitsAreRam}
-use Rattle.memory_core.specs.Steps.{last_stamp}
+use Rattle.memory_core.specs.Steps.{last_stamp, IsInTable}
 use Rattle.memory_core.specs.StandsFor.{StandsFor, HoldsFor, ClaimStands, spans_of, reports_of, handed_for}
 use Rattle.memory_core.specs.declared.claims.OpenClaim.{OpenClaim}
 use Rattle.memory_core.proofs.HoldsLemmas.{stands-none, none-kept}
@@ -170,3 +170,7 @@ gives-table boot entries last table bits claims pages kept room s = record {
   out = λ cpu handed is. handed-out boot (bits_in bits) table.out (kept_of claims cpu) (claim_of boot entries.items cpu) handed (sym (handed-is claims cpu) ∙ is) (s.holds.open_claims cpu);
   none = λ none. empty table.out (s.spans ∙ no-spans claims (λ cpu. none-kept boot (bits_in bits) table.out (kept_of claims cpu) (claim_of boot entries.items cpu) (none cpu) (s.holds.open_claims cpu)));
 }
+
+-- where no claim is open, every page is in the table
+pub all-in : (memory : MemoryValue) → NoneOpen memory → (page : ℕ) → IsInTable memory.boot (claim_of memory.boot memory.entries) page
+all-in memory none page cpu claim is = let no : None ≡ Some claim = sym (none cpu) ∙ is in cc
