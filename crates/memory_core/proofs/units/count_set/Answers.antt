@@ -2,8 +2,8 @@ use Rattle.std.proofs.Common.{◌≡◌, sym, ◌∙◌, ap}
 use Rattle.std.specs.Prelude.{is_some}
 use Rattle.memory_core.specs.Bitmaps.{bits_in}
 use Rattle.memory_core.proofs.CountLemmas.{counted-start, counted-set, counted-clear, one-run-is}
-use Rattle.memory_core.proofs.units.count_unaccepted.Goals as goal
-use Rattle.memory_core.proofs.units.count_unaccepted.Goals.{then-is_some, else-is_some}
+use Rattle.memory_core.proofs.units.count_set.Goals as goal
+use Rattle.memory_core.proofs.units.count_set.Goals.{then-is_some, else-is_some}
 
 pub loop-unit-init : goal.loop-unit-init
 loop-unit-init c = counted-start (bits_in c.args.bits.now) c.args.units.first
