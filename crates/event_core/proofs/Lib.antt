@@ -5,3 +5,4 @@ pub mod SoundLemmas
 pub mod MapLemmas
 pub mod EarlyLemmas
 pub mod BootFacts
+pub mod FrontLemmas
