@@ -111,18 +111,6 @@ first-bit boot unit some = elim (cases_Bool (nat_lt unit (unit_count boot.bits))
 
 -- ---- a boot without its calls
 
-pub is-booted : (map : List Descriptor) (hosts : List HostRun) (table : Option Bits) (slots areas cpus : ℕ) (boot : Boot) → MapRules map hosts → FitsGiven map table → Uncalled map hosts table slots areas cpus boot → cpus ≤ 64 → IsBooted boot
-is-booted map hosts table slots areas cpus boot rules fits plain few =
-    let size = subst (λ u. IsSize (u / 4096)) (sym plain.unit) (unit-size map table fits) in
-    let many = plain.same_cpus in
-    record {
-      pending = set-pending map hosts table slots areas cpus boot rules fits plain;
-      low = ram-low map hosts table slots areas cpus boot rules plain;
-      some = size.some;
-      small = size.small;
-      cpus = omega (arith, many, few);
-    }
-
 early-stub : (map : List Descriptor) (hosts : List HostRun) (slots areas cpus : ℕ) (boot : Boot) (runs : List PageRun) → MapRules map hosts → Uncalled map hosts None slots areas cpus boot → EarlyRuns map runs → All (λ (piece : PageRun). IsEarly boot piece.pages) runs
 early-stub map hosts slots areas cpus boot runs rules plain early k d within = record {
   pending = λ page inside. plain.ram.each page ∙ pending_first map page (early-held page map rules.each (early-at map runs k d page early within inside));
