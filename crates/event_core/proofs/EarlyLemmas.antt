@@ -127,8 +127,9 @@ marks-byte at page d unit marked =
     let within = unit-in at d (marks-unit at d marked).1 in
     byte-in d.start d.pages (4096 * page) (omega (arith, within.low, unit.low)) (omega (arith, within.high, unit.high))
 
-pairs-tail : (d : Descriptor) (ds : List Descriptor) → AllPairs AreApart (d ∷ ds) → AllPairs AreApart ds
-pairs-tail d ds pairs i j e lt high = pairs (suc i) (suc j) e (omega arith) (omega arith)
+-- what holds of each element and each later one holds so behind the first
+pub pairs-tail : {A : Type 0} (R : A → A → Type 0) (x : A) (xs : List A) → AllPairs R (x ∷ xs) → AllPairs R xs
+pairs-tail R x xs pairs i j e lt high = pairs (suc i) (suc j) e (omega arith) (omega arith)
 
 none-of : (test : Descriptor → Bool) (ds : List Descriptor) → ((k : ℕ) (e : Descriptor) → k < length ds → test (get_or ds k e) ≡ true → ⊥) → list_any test ds ≡ false
 none-of test ds never = list_any_none test ds (λ k e within. elim (cases_Bool (test (get_or ds k e))) [ inl t ↦ absurd (never k e within t) | inr f ↦ f ])
@@ -149,7 +150,7 @@ all-apart at page (d ∷ ds) each apart unit marked early =
         | inl here ↦
             (let none : list_any (marks at) ds ≡ false = none-of (marks at) ds (λ k e within h. apart 0 (suc k) e (omega arith) (omega arith) (4096 * page) (early-byte page d even here) (marks-byte at page (get_or ds k e) unit h)) in
             let no : true ≡ false = sym ms ∙ none in cc)
-        | inr behind ↦ all-apart at page ds later (pairs-tail d ds apart) unit ms behind
+        | inr behind ↦ all-apart at page ds later (pairs-tail AreApart d ds apart) unit ms behind
       ]
     ]
 

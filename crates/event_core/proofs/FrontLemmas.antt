@@ -1,8 +1,8 @@
-use Rattle.std.proofs.Common.{◌≡◌, ℕ, ◌+◌, ◌-◌, ◌*◌, ◌%◌, ◌^◌, Bool, true, false, Option, None, Some, List, [], ◌∷◌, ◌++◌, refl, sym, ◌∙◌, ap, subst, inl, inr, arith, append_assoc, append-nil}
+use Rattle.std.proofs.Common.{◌≡◌, ℕ, ◌+◌, ◌-◌, ◌*◌, ◌%◌, ◌^◌, Bool, true, Option, None, Some, List, [], ◌∷◌, ◌++◌, refl, sym, ◌∙◌, ap, subst, inl, inr, arith, append_assoc, append-nil}
 use Rattle.std.specs.Prelude.{◌==◌}
 use Rattle.std.proofs.lemmas.Bool.{cases_Bool}
 use Rattle.guest_base.specs.Levels.{level_pages}
-use Rattle.guest_base.specs.Search.{first_such, each_such}
+use Rattle.guest_base.specs.Search.{first_such}
 use Rattle.guest_base.specs.declared.memory.Page.{Page}
 use Rattle.guest_base.specs.declared.memory.Pages.{Pages}
 use Rattle.guest_base.specs.declared.memory.Units.{Units}
@@ -16,8 +16,8 @@ use Rattle.event_core.specs.declared.module_call.CallKind.TheVariants.{Accept}
 use Rattle.event_core.specs.declared.module_call.PortAnswer.TheVariants.{Ok as AnsweredOk, Failed}
 use Rattle.event_core.specs.declared.module_call.ModuleCall.{ModuleCall}
 use Rattle.event_core.specs.Acceptance.{AcceptanceSteps, fits, greatest_fitting, levels_below, place_of_next, stop_of}
-use Rattle.event_core.specs.Boot.{IsFront, InTurn, AcceptsPiece, AcceptsRun, AcceptsRange, AcceptsBlock, SharesPool, share_call, Stage, Early, PoolAccepted, PoolShared, BlockAccepted, StagePart, pending_piece, set_runs}
-use Rattle.event_core.specs.MemoryRows.{AcceptsUnits, pending_in, pages_first, pages_count}
+use Rattle.event_core.specs.Boot.{IsFront, InTurn, AcceptsPiece, AcceptsRun, AcceptsRange, AcceptsBlock, share_call, Stage, Early, PoolAccepted, PoolShared, BlockAccepted, StagePart, pending_piece, set_runs}
+use Rattle.event_core.specs.MemoryRows.{pending_in, pages_first, pages_count}
 use Rattle.event_core.specs.Units.{guarded_units}
 
 -- Whatever calls a boot has made, it can go on: there are calls of each of its parts, in which each call fails.

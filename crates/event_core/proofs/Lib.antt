@@ -6,3 +6,4 @@ pub mod MapLemmas
 pub mod EarlyLemmas
 pub mod BootFacts
 pub mod FrontLemmas
+pub mod CutFacts

@@ -1,7 +1,6 @@
-use Rattle.std.proofs.Common.{◌≡◌, ℕ, ◌+◌, ◌*◌, Bool, true, false, List, [], ◌∷◌, Option, None, Some, refl, sym, ◌∙◌, ap, subst, inl, inr}
-use Rattle.std.specs.Prelude.{◌||◌}
+use Rattle.std.proofs.Common.{◌≡◌, ℕ, ◌+◌, ◌*◌, true, false, List, [], ◌∷◌, Option, None, Some, sym, ◌∙◌, ap, subst, inl, inr}
 use Rattle.std.specs.List.{list_any, AllByRecursion}
-use Rattle.std.proofs.lemmas.Bool.{cases_Bool}
+use Rattle.std.proofs.lemmas.Bool.{cases_Bool, or_parts}
 use Rattle.std.proofs.lemmas.List.Sorted.{list_any-IsPermutation}
 use Rattle.guest_base.specs.Ranges.{in_range}
 use Rattle.guest_base.specs.declared.memory.Pages.{Pages}
@@ -24,15 +23,11 @@ use Rattle.event_laws.specs.Coming.{BootMade}
 abbrev pub PieceApart : Boot → Pages → Type 0
 PieceApart boot pages = (unit page : ℕ) → bit_of boot.bits unit ≡ true → in_range (unit_first boot unit) (unit_pages boot) page ≡ true → in_range pages.first pages.count page ≡ false
 
-or-none : (b c : Bool) → (b || c) ≡ false → (b ≡ false) × (c ≡ false)
-or-none true c h = cc
-or-none false c h = (refl, h)
-
 pieces-each : (boot : Boot) (pieces : List Pages) → ((unit page : ℕ) → bit_of boot.bits unit ≡ true → in_range (unit_first boot unit) (unit_pages boot) page ≡ true → list_any (in_pages page) pieces ≡ false) → AllByRecursion (PieceApart boot) pieces
 pieces-each boot [] none = tt
 pieces-each boot (p ∷ pieces) none = (
-  (λ unit page set inside. (or-none (in_pages page p) (list_any (in_pages page) pieces) (none unit page set inside)).0),
-  pieces-each boot pieces (λ unit page set inside. (or-none (in_pages page p) (list_any (in_pages page) pieces) (none unit page set inside)).1),
+  (λ unit page set inside. (or_parts (in_pages page p) (list_any (in_pages page) pieces) (none unit page set inside)).0),
+  pieces-each boot pieces (λ unit page set inside. (or_parts (in_pages page p) (list_any (in_pages page) pieces) (none unit page set inside)).1),
 )
 
 early-by : (map : List Descriptor) (hosts : List HostRun) (table : Option Bits) (slots areas cpus : ℕ) (boot : Boot) (pieces : List Pages) → MapRules map hosts → Uncalled map hosts table slots areas cpus boot → EarlyBy map table pieces → AllByRecursion (PieceApart boot) pieces

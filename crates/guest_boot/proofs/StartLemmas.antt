@@ -23,7 +23,7 @@ use Rattle.event_core.specs.Stub.{default_unit, unaccepted, round_down, least_st
 use Rattle.event_core.specs.Units.{bit_of, bit_after, unit_count, unit_first, unit_pages}
 use Rattle.event_core.proofs.MapLemmas.{pending_first}
 use Rattle.event_core.proofs.BootFacts.{IsSize, unit-size, set-pending, set-unit, states-low, ram-low}
-use Rattle.event_core.proofs.EarlyLemmas.{all-apart, early-held, unaccepted-each, unaccepted-apart}
+use Rattle.event_core.proofs.EarlyLemmas.{pairs-tail, all-apart, early-held, unaccepted-each, unaccepted-apart}
 use Rattle.event_core.specs.Boot.{Uncalled}
 use Rattle.page_module.specs.States.{state_in}
 use Rattle.page_module.specs.Tables.{Rising}
@@ -44,15 +44,12 @@ use Rattle.guest_boot.proofs.EarlyLemmas.{early-at}
 pub ram-ends : (map : List Descriptor) (hosts : List HostRun) (table : Option Bits) (ram : List PageRun) → MapRules map hosts → AreMaximalRuns (first_by map table) ram → All (λ (run : PageRun). run_end run ≤ 2 ^ 28) ram
 ram-ends map hosts table ram rules maximal = runs-low (2 ^ 28) (first_by map table) ram maximal (states-low map hosts table rules)
 
-pairs-tail : (run : PageRun) (runs : List PageRun) → AllPairs GoesBefore (run ∷ runs) → AllPairs GoesBefore runs
-pairs-tail run runs pairs i j d lt high = pairs (suc i) (suc j) d (omega arith) (omega arith)
-
 behind-first : (run : PageRun) (runs : List PageRun) → AllPairs GoesBefore (run ∷ runs) → AllByRecursion (λ (r : PageRun). run_end run ≤ r.pages.first) runs
 behind-first run runs pairs = recursion_from_All (λ (r : PageRun). run_end run ≤ r.pages.first) runs (λ k d low. (pairs 0 (suc k) d (omega arith) (omega arith)).ends)
 
 rising-of : (from : ℕ) (runs : List PageRun) → AllByRecursion (λ (run : PageRun). 0 < run.pages.count) runs → AllByRecursion (λ (run : PageRun). run_end run ≤ 2 ^ 28) runs → AllPairs GoesBefore runs → AllByRecursion (λ (run : PageRun). from ≤ run.pages.first) runs → Rising from runs
 rising-of from [] some ends pairs low = tt
-rising-of from (run ∷ runs) some ends pairs low = (low.0, some.0, ends.0, rising-of (run_end run) runs some.1 ends.1 (pairs-tail run runs pairs) (behind-first run runs pairs))
+rising-of from (run ∷ runs) some ends pairs low = (low.0, some.0, ends.0, rising-of (run_end run) runs some.1 ends.1 (pairs-tail GoesBefore run runs pairs) (behind-first run runs pairs))
 
 from_zero : (runs : List PageRun) → AllByRecursion (λ (run : PageRun). 0 ≤ run.pages.first) runs
 from_zero [] = tt
