@@ -41,7 +41,7 @@ abbrev pub AcceptsPiece : Boot → List ModuleCall → Pages → List ModuleCall
 AcceptsPiece boot before pages calls stop =
     AcceptanceSteps boot.hosts (pending_piece boot before pages) (pages.first + pages.count) pages.first None calls × (stop ≡ stop_of calls)
 
--- the maximal runs of set bits of units from one on, at most so many
+-- the maximal runs of set bits of units from one on, at most this many
 abbrev pub runs_from : (ℕ → Bool) → ℕ → ℕ → ℕ → List Units
 runs_from test zero from end = []
 runs_from test (suc most) from end =
@@ -97,7 +97,7 @@ pool_stages (Some pool) = PoolAccepted pool ∷ PoolShared pool ∷ []
 abbrev pub stages_of : Boot → List Pages → List Stage
 stages_of boot pieces = map Early pieces ++ pool_stages boot.pool ++ map BlockAccepted (cut boot)
 
--- a place from which so many pages are RAM
+-- a place from which this many pages are RAM
 abbrev pub HasRoom : Boot → ℕ → ℕ → Type 0
 HasRoom boot count first = (page : ℕ) → in_range first count page ≡ true → state_in boot.ram page ≢ None
 
@@ -141,7 +141,8 @@ pub record BootStopped (map : List Descriptor) (hosts : List HostRun) (table : O
   pub uncalled : Uncalled map hosts table slots areas cpus boot
   pub made : BootCalls map table boot calls (Some page)
 
--- calls with which those of a part begin, whether it stops or comes to its end
+-- these calls are a front of a part's: with later calls they are all of them, whether the part stops
+-- or comes to its end
 abbrev pub IsFront : (List ModuleCall → Option Page → Type 0) → List ModuleCall → Type 0
 IsFront Part calls = (later : List ModuleCall) × (stop : Option Page) × Part (calls ++ later) stop
 
@@ -153,6 +154,7 @@ pub record BootGoesOn (map : List Descriptor) (hosts : List HostRun) (table : Op
   pub front : IsFront (BootCalls map table boot) calls
 
 -- no call was made, or a boot of the map goes on from those that were
-abbrev pub BootFront : List Descriptor → List HostRun → Option Bits → ℕ → ℕ → ℕ → List ModuleCall → Type 0
+abbrev pub BootFront :
+    List Descriptor → List HostRun → Option Bits → ℕ → ℕ → ℕ → List ModuleCall → Type 0
 BootFront map hosts table slots areas cpus calls =
     (calls ≡ []) ⊎ BootGoesOn map hosts table slots areas cpus calls

@@ -1,5 +1,5 @@
-use Rattle.std.proofs.Common.{◌≡◌, ℕ, ◌≤◌, Option, None, Some, List, [], ◌++◌, refl, sym, ◌∙◌, ap, subst, map, inr, arith}
-use Rattle.std.specs.Prelude.{All, Result, Ok, Err}
+use Rattle.std.proofs.Common.{◌≡◌, ℕ, ◌≤◌, Option, None, Some, List, [], ◌++◌, refl, sym, ◌∙◌, ap, subst, inr, arith}
+use Rattle.std.specs.Prelude.{All, Result, Err}
 use Rattle.guest_base.specs.declared.memory.Page.{Page}
 use Rattle.guest_base.specs.declared.memory.Pages.{Pages}
 use Rattle.guest_base.specs.declared.memory.PageRun.{PageRun}
@@ -11,13 +11,12 @@ use Rattle.event_core.specs.Boot.{BootRight, BootStopped, BootFront, BootCalls, 
 use Rattle.event_core.specs.Map.{MapRules}
 use Rattle.event_core.specs.Given.{FitsGiven}
 use Rattle.event_core.specs.Table.{Bits}
-use Rattle.unaccepted_bitmap.specs.StubMap.{pending_run}
 use Rattle.memory_core.specs.Booted.{IsBooted}
 use Rattle.event_core.proofs.FrontLemmas.{front-whole}
 use Rattle.guest_boot.specs.Booting.{IsEarly, Grew, LeftBy, stages_by}
 use Rattle.guest_boot.specs.declared.fault.BootFault.{BootFault}
 use Rattle.guest_boot.specs.declared.fault.BootFault.TheVariants.{Module, NoMemory}
-use Rattle.guest_boot.specs.Starting.{IsFirstBoot, BeginsWith, EarlyRunsBy}
+use Rattle.guest_boot.specs.Starting.{IsFirstBoot, BeginsWith}
 use Rattle.guest_boot.proofs.StartLemmas.{uncalled, early-each}
 use Rattle.memory_core.proofs.PartsLemmas.{booted}
 use Rattle.guest_boot.proofs.StageLemmas.{with_calls, stages-same, stages-are}

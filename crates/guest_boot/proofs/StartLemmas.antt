@@ -16,13 +16,13 @@ use Rattle.event_core.specs.declared.boot.Descriptor.{Descriptor}
 use Rattle.event_core.specs.declared.boot.Boot.{Boot}
 use Rattle.event_core.specs.Cut.{cut, blocks_of, ram_ranges, without_pool}
 use Rattle.event_core.specs.Map.{MapRules}
-use Rattle.event_core.specs.Given.{FitsGiven, first_by, unit_by, base_by, length_by, bit_by}
+use Rattle.event_core.specs.Given.{first_by, unit_by, base_by, length_by, bit_by}
 use Rattle.event_core.specs.MemoryRows.{is_pending}
 use Rattle.event_core.specs.Runs.{AreMaximalRuns, GoesBefore, run_holds, run_end, state_in as first_state_of}
 use Rattle.event_core.specs.Stub.{default_unit, unaccepted, round_down, least_start, stub_base}
 use Rattle.event_core.specs.Units.{bit_of, bit_after, unit_count, unit_first, unit_pages}
 use Rattle.event_core.proofs.MapLemmas.{pending_first}
-use Rattle.event_core.proofs.BootFacts.{IsSize, unit-size, set-pending, set-unit, states-low, ram-low}
+use Rattle.event_core.proofs.BootFacts.{set-unit, states-low}
 use Rattle.event_core.proofs.EarlyLemmas.{pairs-tail, all-apart, early-held, unaccepted-each, unaccepted-apart}
 use Rattle.event_core.specs.Boot.{Uncalled}
 use Rattle.page_module.specs.States.{state_in}

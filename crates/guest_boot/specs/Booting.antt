@@ -42,18 +42,20 @@ pub record StandsAfter (boot : Boot) (done : List ModuleCall) (kept : Kept) : Ty
 abbrev pub Grew : List ModuleCall → List ModuleCall → (List ModuleCall → Type 0) → Type 0
 Grew before after P = (now : List ModuleCall) × (after ≡ before ++ now) × P now
 
--- calls of a part of boot that was left early: those up to the page at which it stopped, or where memory ran out those with which
--- it begins
+-- calls of a part of boot that was left early: those up to the page at which it stopped, or where
+-- memory ran out a front of them
 abbrev pub LeftBy : BootFault → (List ModuleCall → Option Page → Type 0) → List ModuleCall → Type 0
 LeftBy (Module page) Part now = Part now (Some page)
 LeftBy NoMemory Part now = IsFront Part now
 
 -- calls of a part of boot, by the result of the work on it
-abbrev pub EndedBy : {T : Type 0} → Result T BootFault → (List ModuleCall → Option Page → Type 0) → List ModuleCall → Type 0
+abbrev pub EndedBy : {T : Type 0}
+    → Result T BootFault → (List ModuleCall → Option Page → Type 0) → List ModuleCall → Type 0
 EndedBy (Ok done) Part now = Part now None
 EndedBy (Err fault) Part now = LeftBy fault Part now
 
--- A part of boot was worked on: the calls behind those before are the part's, and where it was done what is kept stands for all.
+-- A part of boot was worked on: the calls behind those before are the part's, and where it was done
+-- what is kept stands for all.
 pub record WorkedOn {T : Type 0} (boot : Boot) (Part : List ModuleCall → Option Page → Type 0)
     (before after : List ModuleCall) (kept : Kept) (result : Result T BootFault) : Type 0 where
   pub made : Grew before after (EndedBy result Part)
@@ -65,12 +67,14 @@ pub record FaultsBy {T : Type 0} (before after : ℕ) (result : Result T BootFau
   pub rose : (page : Page) → result ≡ Err (Module page) → Rose before after
 
 -- an early piece, as it is kept, is accepted by sizes
-abbrev pub AcceptsRunPiece : Boot → List ModuleCall → PageRun → List ModuleCall → Option Page → Type 0
+abbrev pub AcceptsRunPiece :
+    Boot → List ModuleCall → PageRun → List ModuleCall → Option Page → Type 0
 AcceptsRunPiece boot before piece calls stop = AcceptsPiece boot before piece.pages calls stop
 
 -- the stages of a boot without a pool, of the early pieces as they are kept
 abbrev pub stages_by : Boot → List PageRun → List Stage
-stages_by boot pieces = map (λ (piece : PageRun). Early piece.pages) pieces ++ map BlockAccepted (cut boot)
+stages_by boot pieces =
+    map (λ (piece : PageRun). Early piece.pages) pieces ++ map BlockAccepted (cut boot)
 
 -- the runs of units that pass a test, among some
 abbrev pub runs_in : (ℕ → Bool) → Option Units → List Units

@@ -81,7 +81,8 @@ fn keep_calls(
 ) -> Result<(), BootFault>
     ensures calls { OnOk result (kept.new.items ≡ kept.old.items ++ calls.now) }
     ensures whole { OnOk result (stopped_at end ≡ None) }
-    ensures stopped { (page : PageValue) → result ≡ Err (BootFault.Module page) → stopped_at end ≡ Some page }
+    ensures stopped { (page : PageValue) → result ≡ Err (BootFault.Module page)
+        → stopped_at end ≡ Some page }
 {
     if let RunEnd::Stopped(page) = end {
         return Err(BootFault::Module(page));

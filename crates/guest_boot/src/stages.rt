@@ -29,7 +29,8 @@ pub(crate) fn accept_early<P: Port>(
     requires booted { IsBooted boot.now }
     requires stands { StandsAfter boot.now (P.made port.old) kept.old }
     requires early { All (λ (piece : PageRunValue). IsEarly boot.now piece.pages) pieces.now }
-    ensures done { WorkedOn boot.now (InTurn (AcceptsRunPiece boot.now) (P.made port.old) pieces.now)
+    ensures done { WorkedOn boot.now
+        (InTurn (AcceptsRunPiece boot.now) (P.made port.old) pieces.now)
         (P.made port.old) (P.made port.new) kept.new result }
     ensures faults { FaultsBy (P.faults port.old) (P.faults port.new) result }
     ensures never_fails { P.never_fails port.old → P.never_fails port.new }

@@ -1,4 +1,4 @@
-use Rattle.std.proofs.Common.{◌∙◌, Err, sym, ap, arith}
+use Rattle.std.proofs.Common.{◌∙◌, Err, ap, arith}
 use Rattle.std.proofs.lemmas.Result.{err_from_is_err_and}
 use Rattle.guest_base.specs.declared.memory.PageRun.{PageRun}
 use Rattle.event_core.specs.Boot.{InTurn}

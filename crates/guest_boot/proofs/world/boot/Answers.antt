@@ -1,11 +1,11 @@
-use Rattle.std.proofs.Common.{◌≡◌, ◌∙◌, [], ◌++◌, None, Some, Err, List, refl, sym, ap, subst, inl}
+use Rattle.std.proofs.Common.{◌≡◌, ◌∙◌, Err, List, sym, ap, subst}
 use Rattle.std.specs.Prelude.{All}
 use Rattle.std.proofs.lemmas.Result.{err_from_is_err_and}
 use Rattle.guest_base.specs.declared.memory.PageRun.{PageRun}
 use Rattle.event_core.specs.declared.module_call.ModuleCall.{ModuleCall}
 use Rattle.page_module.specs.States.{state_in}
 use Rattle.memory_core.specs.Bitmaps.{BitsAfter}
-use Rattle.guest_boot.specs.Booting.{StandsAfter, IsEarly, LeftBy}
+use Rattle.guest_boot.specs.Booting.{StandsAfter, IsEarly}
 use Rattle.guest_boot.specs.declared.accept.Kept.{Kept}
 use Rattle.guest_boot.proofs.StartLemmas.{ram-ends, ram-rises, first-stands, cut-is}
 use Rattle.guest_boot.proofs.StageLemmas.{bits-same, with_calls}
@@ -52,8 +52,7 @@ returns-in_err-accept_stages-clause-front g c =
 
 pub new-requires-3-clause-right : goal.new-requires-3-clause-right
 new-requires-3-clause-right g c =
-    let begin : Begins c.args.map.now.descriptors c.args.map.now.hosts c.args.table c.args.areas c.args.cpus c.in_ok-ram.field-0.ram c.in_ok-ram.field-0.bits c.in_ok-ram.field-0.pieces c.in_ok-boot.boot = record { rules = c.requires.rules; few = c.requires.few; fits = c.requires.fits; begins = c.in_ok-ram.ensures; first = c.in_ok-boot.ensures } in
-    (
+    let begin : Begins c.args.map.now.descriptors c.args.map.now.hosts c.args.table c.args.areas c.args.cpus c.in_ok-ram.field-0.ram c.in_ok-ram.field-0.bits c.in_ok-ram.field-0.pieces c.in_ok-boot.boot = record { rules = c.requires.rules; few = c.requires.few; fits = c.requires.fits; begins = c.in_ok-ram.ensures; first = c.in_ok-boot.ensures } in (
       c.args.map.now.descriptors,
       c.args.table,
       0,
