@@ -141,8 +141,8 @@ pub record BootStopped (map : List Descriptor) (hosts : List HostRun) (table : O
   pub uncalled : Uncalled map hosts table slots areas cpus boot
   pub made : BootCalls map table boot calls (Some page)
 
--- these calls are a front of a part's: with later calls they are all of them, whether the part stops
--- or comes to its end
+-- these calls are a front of a part's: with later calls they are all of them, whether the part
+-- stops or comes to its end
 abbrev pub IsFront : (List ModuleCall → Option Page → Type 0) → List ModuleCall → Type 0
 IsFront Part calls = (later : List ModuleCall) × (stop : Option Page) × Part (calls ++ later) stop
 
