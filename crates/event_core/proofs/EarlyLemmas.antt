@@ -9,7 +9,8 @@ use Rattle.guest_base.specs.Ranges.{in_range}
 use Rattle.guest_base.specs.declared.memory.Pages.{Pages}
 use Rattle.event_core.specs.declared.boot.Descriptor.{Descriptor}
 use Rattle.event_core.specs.Map.{is_unaccepted, holds_page, descriptor_end, IsDescriptor, AreApart}
-use Rattle.event_core.specs.Stub.{default_unit, round_down, round_up, is_short, holds_unit, piece, early_of, unaccepted}
+use Rattle.event_core.specs.Stub.{default_unit, round_down, round_up, is_short, holds_unit, piece, early_of, unaccepted, EarlyPieces}
+use Rattle.std.proofs.lemmas.List.Sorted.{list_any-IsPermutation}
 
 -- Early pieces lie in unaccepted descriptors, and meet no unit that lies wholly in one.
 
@@ -193,6 +194,12 @@ early-held page (d ∷ ds) each h =
 pub any-flat : (test : Pages → Bool) (ds : List Descriptor) → list_any test (flat_map early_of ds) ≡ list_any (λ d. list_any test (early_of d)) ds
 any-flat test [] = refl
 any-flat test (d ∷ ds) = list_any-append test (early_of d) (flat_map early_of ds) ∙ ap (λ b. list_any test (early_of d) || b) (any-flat test ds)
+
+-- a page of an early piece is one of an unaccepted descriptor's
+pub in-early : (map : List Descriptor) (pieces : List Pages) (page : ℕ) → EarlyPieces map pieces → list_any (in_pages page) pieces ≡ true → list_any (early_in page) (unaccepted map) ≡ true
+in-early map pieces page early inside =
+    list_any-IsPermutation (early_in page) (unaccepted map) early.sorted early.same
+    ∙ sym (any-flat (in_pages page) early.sorted) ∙ ap (list_any (in_pages page)) (sym early.made) ∙ inside
 
 pub unaccepted-each : (map : List Descriptor) → All IsDescriptor map → All IsDescriptor (unaccepted map)
 unaccepted-each map each = All-filter is_unaccepted IsDescriptor map each
