@@ -1,7 +1,7 @@
 use Rattle.std.proofs.Common.{◌≡◌, ◌≢◌, ℕ, ◌+◌, ◌*◌, ◌/◌, ◌%◌, ◌^◌, ◌<◌, ◌≤◌, Bool, true, false, ◌&&◌, Option, None, Some, List, [], ◌∷◌, ◌++◌, refl, sym, ◌∙◌, ap, subst, inl, inr, arith, cond, eqb-true}
 use Rattle.std.specs.Prelude.{fold, ◌-◌, ◌==◌, nat_le, not}
 use Rattle.std.specs.List.{AllByRecursion}
-use Rattle.std.proofs.lemmas.Bool.{cases_lt}
+use Rattle.std.proofs.lemmas.Bool.{cases_lt, and_parts, not-false}
 use Rattle.std.proofs.lemmas.Bool.Decides.{nat_tests}
 use Rattle.guest_base.specs.Ranges.{in_range}
 use Rattle.guest_base.specs.declared.memory.Page.{Page}
@@ -57,14 +57,6 @@ states-low map hosts table rules page some =
 pub ram-low : (map : List Descriptor) (hosts : List HostRun) (table : Option Bits) (slots areas cpus : ℕ) (boot : Boot) → MapRules map hosts → Uncalled map hosts table slots areas cpus boot → (page : ℕ) → state_in boot.ram page ≢ None → page < 2 ^ 28
 ram-low map hosts table slots areas cpus boot rules plain page some = states-low map hosts table rules page (λ none. some (plain.ram.each page ∙ none))
 
-first-both : (b c : Bool) → (b && c) ≡ true → b ≡ true
-first-both true c h = refl
-first-both false c h = cc
-
-not-false : (b : Bool) → not b ≡ false → b ≡ true
-not-false true h = refl
-not-false false h = cc
-
 -- a page of a unit lies in the unit's bytes
 pub in_unit : (base size unit least page : ℕ) → size ≡ 2097152 → base ≡ least / 2097152 * 2097152 → in_range (base / 4096 + unit * (size / 4096)) (size / 4096) page ≡ true → UnitHolds (base + unit * 2097152) page
 in_unit base size unit least page is down inside =
@@ -76,7 +68,7 @@ in_unit base size unit least page is down inside =
 pub set-unit : (map : List Descriptor) (hosts : List HostRun) (slots areas cpus : ℕ) (boot : Boot) → Uncalled map hosts None slots areas cpus boot → (unit page : ℕ) → bit_of boot.bits unit ≡ true → in_range (unit_first boot unit) (unit_pages boot) page ≡ true → (stub_bit map unit ≡ true) × UnitHolds (stub_base map + unit * default_unit) page
 set-unit map hosts slots areas cpus boot plain unit page set inside =
     let at = in_unit boot.base boot.unit unit (least_start (unaccepted map)) page plain.unit plain.base inside in
-    let below = lt-of unit (unit_count boot.bits) (first-both _ _ set) in
+    let below = lt-of unit (unit_count boot.bits) ((and_parts _ _ set).0) in
     let place : boot.base + unit * 2097152 ≡ stub_base map + unit * default_unit = ap (λ base. base + unit * 2097152) plain.base in
     (sym (plain.bits unit below) ∙ set, subst (λ a. UnitHolds a page) place at)
 
@@ -98,7 +90,7 @@ marked-at table unit page set inside =
 pub fits-page : (map : List Descriptor) (table : Bits) (unit page : ℕ) → FitsTable map table → bit_of table.bits unit ≡ true → in_range (table.base / 4096 + unit * (table.unit / 4096)) (table.unit / 4096) page ≡ true → unaccepted_page map page ≡ true
 unfolding bad_unit
 fits-page map table unit page fits set inside =
-    let below = lt-of unit (unit_count table.bits) (first-both _ _ set) in
+    let below = lt-of unit (unit_count table.bits) ((and_parts _ _ set).0) in
     let end : unit < 0 + unit_count table.bits = omega (arith, below) in
     let none = (first_such-None _ 0 (unit_count table.bits) fits.none_bad).fails unit (omega arith) end in
     let whole : is_unaccepted_unit map table unit ≡ true = not-false _ (rw set at none) in
@@ -108,7 +100,7 @@ fits-page map table unit page fits set inside =
 -- the pages of a set unit are pending at first
 pub set-pending : (map : List Descriptor) (hosts : List HostRun) (table : Option Bits) (slots areas cpus : ℕ) (boot : Boot) → MapRules map hosts → FitsGiven map table → Uncalled map hosts table slots areas cpus boot → (unit page : ℕ) → bit_of boot.bits unit ≡ true → in_range (unit_first boot unit) (unit_pages boot) page ≡ true → state_in boot.ram page ≡ Some Pending
 set-pending map hosts (Some table) slots areas cpus boot rules fits plain unit page set inside =
-    let below = lt-of unit (unit_count boot.bits) (first-both _ _ set) in
+    let below = lt-of unit (unit_count boot.bits) ((and_parts _ _ set).0) in
     let is : bit_of table.bits unit ≡ true = sym (plain.bits unit below) ∙ set in
     let here : in_range (table.base / 4096 + unit * (table.unit / 4096)) (table.unit / 4096) page ≡ true =
     sym (ap (λ base. in_range (base / 4096 + unit * (boot.unit / 4096)) (boot.unit / 4096) page) plain.base ∙ ap (λ size. in_range (table.base / 4096 + unit * (size / 4096)) (size / 4096) page) plain.unit) ∙ inside in
@@ -148,17 +140,27 @@ unit-size map (Some table) fits = table-size table.unit fits.is_table.unit_is
 abbrev pub TakesNone : ModuleCall → Type 0
 TakesNone call = state_made call.kind ≢ Pending
 
-all-append : {A : Type 0} (P : A → Type 0) (xs ys : List A) → AllByRecursion P xs → AllByRecursion P ys → AllByRecursion P (xs ++ ys)
+pub all-append : {A : Type 0} (P : A → Type 0) (xs ys : List A) → AllByRecursion P xs → AllByRecursion P ys → AllByRecursion P (xs ++ ys)
 all-append P [] ys left right = right
 all-append P (x ∷ xs) ys left right = (left.0, all-append P xs ys left.1 right)
+
+-- what holds of the calls of each item's part, where something holds of the item, holds of the calls of all such items
+pub in-turn-each : {Item : Type 0} (Part : List ModuleCall → Item → List ModuleCall → Option Page → Type 0) (Q : Item → Type 0) (P : ModuleCall → Type 0)
+    → ((done : List ModuleCall) (item : Item) (now : List ModuleCall) (stop : Option Page) → Q item → Part done item now stop → AllByRecursion P now)
+    → (done : List ModuleCall) (items : List Item) (calls : List ModuleCall) (stop : Option Page) → AllByRecursion Q items → InTurn Part done items calls stop → AllByRecursion P calls
+in-turn-each Part Q P each done [] calls stop all turn = subst (AllByRecursion P) (sym turn.0) tt
+in-turn-each Part Q P each done (item ∷ items) calls stop all (inl stopped) = each done item calls (Some stopped.0) all.0 stopped.1
+in-turn-each Part Q P each done (item ∷ items) calls stop all (inr (now, later, is, part, rest)) =
+    subst (AllByRecursion P) (sym is) (all-append P now later (each done item now None all.0 part) (in-turn-each Part Q P each (done ++ now) items later stop all.1 rest))
+
+all-true : {Item : Type 0} (items : List Item) → AllByRecursion (λ _. Unit {0}) items
+all-true [] = tt
+all-true (item ∷ items) = (tt, all-true items)
 
 -- what holds of the calls of each part holds of the calls of all
 in-turn-all : {Item : Type 0} (Part : List ModuleCall → Item → List ModuleCall → Option Page → Type 0) (P : ModuleCall → Type 0) → ((done : List ModuleCall) (item : Item) (now : List ModuleCall) (stop : Option Page) → Part done item now stop → AllByRecursion P now)
     → (done : List ModuleCall) (items : List Item) (calls : List ModuleCall) (stop : Option Page) → InTurn Part done items calls stop → AllByRecursion P calls
-in-turn-all Part P each done [] calls stop turn = subst (AllByRecursion P) (sym turn.0) tt
-in-turn-all Part P each done (item ∷ items) calls stop (inl stopped) = each done item calls (Some stopped.0) stopped.1
-in-turn-all Part P each done (item ∷ items) calls stop (inr (now, later, is, part, rest)) =
-    subst (AllByRecursion P) (sym is) (all-append P now later (each done item now None part) (in-turn-all Part P each (done ++ now) items later stop rest))
+in-turn-all Part P each done items calls stop turn = in-turn-each Part (λ _. Unit {0}) P (λ before item now end any part. each before item now end part) done items calls stop (all-true items) turn
 
 kind-accept : (kind : CallKind) → kind ≡ Accept → state_made kind ≢ Pending
 kind-accept Accept is = λ no. cc
@@ -193,10 +195,6 @@ boot-takes-none map hosts table slots areas cpus boot right = in-turn-all (Stage
 
 -- ---- what is unaccepted is pending
 
-both-second : (b c : Bool) → (b && c) ≡ true → c ≡ true
-both-second true c h = h
-both-second false c h = cc
-
 shared-mark : (b marked : Bool) (s : Option PageState) → marked ≡ is_pending s → (b ≡ true → s ≡ Some Accepted) → cond b marked marked ≡ is_pending (cond b (Some Shared) s)
 shared-mark true marked s is sound = is ∙ ap is_pending (sound refl)
 shared-mark false marked s is sound = is
@@ -208,7 +206,7 @@ accept-mark false marked s is = is
 mark-one : (page : ℕ) (call : ModuleCall) (marked : Bool) (states : States) (kind : CallKind) → call.kind ≡ kind → state_made kind ≢ Pending → marked ≡ is_pending (states page) → (covers call page ≡ true → states page ≡ Some (state_before kind))
     → cond (is_done call && covers call page) (mark_made kind marked) marked ≡ is_pending (cond (is_done call && covers call page) (Some (state_made kind)) (states page))
 mark-one page call marked states Accept kind not is sound = accept-mark (is_done call && covers call page) marked (states page) is
-mark-one page call marked states Share kind not is sound = shared-mark (is_done call && covers call page) marked (states page) is (λ b. sound (both-second (is_done call) (covers call page) b))
+mark-one page call marked states Share kind not is sound = shared-mark (is_done call && covers call page) marked (states page) is (λ b. sound ((and_parts (is_done call) (covers call page) b).1))
 mark-one page call marked states Unshare kind not is sound = absurd (not refl)
 mark-one page call marked states Give kind not is sound = absurd (not refl)
 

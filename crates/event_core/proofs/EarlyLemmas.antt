@@ -9,7 +9,8 @@ use Rattle.guest_base.specs.Ranges.{in_range}
 use Rattle.guest_base.specs.declared.memory.Pages.{Pages}
 use Rattle.event_core.specs.declared.boot.Descriptor.{Descriptor}
 use Rattle.event_core.specs.Map.{is_unaccepted, holds_page, descriptor_end, IsDescriptor, AreApart}
-use Rattle.event_core.specs.Stub.{default_unit, round_down, round_up, is_short, holds_unit, piece, early_of, unaccepted}
+use Rattle.event_core.specs.Stub.{default_unit, round_down, round_up, is_short, holds_unit, piece, early_of, unaccepted, EarlyPieces}
+use Rattle.std.proofs.lemmas.List.Sorted.{list_any-IsPermutation}
 
 -- Early pieces lie in unaccepted descriptors, and meet no unit that lies wholly in one.
 
@@ -127,8 +128,9 @@ marks-byte at page d unit marked =
     let within = unit-in at d (marks-unit at d marked).1 in
     byte-in d.start d.pages (4096 * page) (omega (arith, within.low, unit.low)) (omega (arith, within.high, unit.high))
 
-pairs-tail : (d : Descriptor) (ds : List Descriptor) → AllPairs AreApart (d ∷ ds) → AllPairs AreApart ds
-pairs-tail d ds pairs i j e lt high = pairs (suc i) (suc j) e (omega arith) (omega arith)
+-- what holds of each element and each later one holds so behind the first
+pub pairs-tail : {A : Type 0} (R : A → A → Type 0) (x : A) (xs : List A) → AllPairs R (x ∷ xs) → AllPairs R xs
+pairs-tail R x xs pairs i j e lt high = pairs (suc i) (suc j) e (omega arith) (omega arith)
 
 none-of : (test : Descriptor → Bool) (ds : List Descriptor) → ((k : ℕ) (e : Descriptor) → k < length ds → test (get_or ds k e) ≡ true → ⊥) → list_any test ds ≡ false
 none-of test ds never = list_any_none test ds (λ k e within. elim (cases_Bool (test (get_or ds k e))) [ inl t ↦ absurd (never k e within t) | inr f ↦ f ])
@@ -149,7 +151,7 @@ all-apart at page (d ∷ ds) each apart unit marked early =
         | inl here ↦
             (let none : list_any (marks at) ds ≡ false = none-of (marks at) ds (λ k e within h. apart 0 (suc k) e (omega arith) (omega arith) (4096 * page) (early-byte page d even here) (marks-byte at page (get_or ds k e) unit h)) in
             let no : true ≡ false = sym ms ∙ none in cc)
-        | inr behind ↦ all-apart at page ds later (pairs-tail d ds apart) unit ms behind
+        | inr behind ↦ all-apart at page ds later (pairs-tail AreApart d ds apart) unit ms behind
       ]
     ]
 
@@ -192,6 +194,12 @@ early-held page (d ∷ ds) each h =
 pub any-flat : (test : Pages → Bool) (ds : List Descriptor) → list_any test (flat_map early_of ds) ≡ list_any (λ d. list_any test (early_of d)) ds
 any-flat test [] = refl
 any-flat test (d ∷ ds) = list_any-append test (early_of d) (flat_map early_of ds) ∙ ap (λ b. list_any test (early_of d) || b) (any-flat test ds)
+
+-- a page of an early piece is one of an unaccepted descriptor's
+pub in-early : (map : List Descriptor) (pieces : List Pages) (page : ℕ) → EarlyPieces map pieces → list_any (in_pages page) pieces ≡ true → list_any (early_in page) (unaccepted map) ≡ true
+in-early map pieces page early inside =
+    list_any-IsPermutation (early_in page) (unaccepted map) early.sorted early.same
+    ∙ sym (any-flat (in_pages page) early.sorted) ∙ ap (list_any (in_pages page)) (sym early.made) ∙ inside
 
 pub unaccepted-each : (map : List Descriptor) → All IsDescriptor map → All IsDescriptor (unaccepted map)
 unaccepted-each map each = All-filter is_unaccepted IsDescriptor map each

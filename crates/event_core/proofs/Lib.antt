@@ -9,3 +9,5 @@ pub mod RisingLemmas
 pub mod LocalLemmas
 pub mod BlockingLemmas
 pub mod IdleLemmas
+pub mod FrontLemmas
+pub mod CutFacts

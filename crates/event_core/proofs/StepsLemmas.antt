@@ -26,6 +26,11 @@ pending-is (Some Pending) h = refl
 pending-is (Some Accepted) h = cc
 pending-is (Some Shared) h = cc
 
+-- the state that is left of a page where a test fails is none
+pub pending-if : (b : Bool) (s : Option PageState) → is_pending (cond b s None) ≡ (b && is_pending s)
+pending-if true s = refl
+pending-if false s = refl
+
 -- a test behind another one
 pub second_of : (b c : Bool) → elim b as (λ _. Bool) [ true ↦ c | false ↦ false ] ≡ true → c ≡ true
 second_of true c h = h

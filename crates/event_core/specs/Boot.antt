@@ -142,10 +142,20 @@ pub record BootStopped (map : List Descriptor) (hosts : List HostRun) (table : O
   pub uncalled : Uncalled map hosts table slots areas cpus boot
   pub made : BootCalls map table boot calls (Some page)
 
--- these calls are a front of those that a boot of the map makes, whether that stops or comes to its end
-pub record BootFront (map : List Descriptor) (hosts : List HostRun) (table : Option Bits) (slots areas cpus : ℕ) (calls : List ModuleCall) : Type 0 where
+-- these calls are a front of a part's: with later calls they are all of them, whether the part
+-- stops or comes to its end
+abbrev pub IsFront : (List ModuleCall → Option Page → Type 0) → List ModuleCall → Type 0
+IsFront Part calls = (later : List ModuleCall) × (stop : Option Page) × Part (calls ++ later) stop
+
+-- a boot of the map goes on from these calls, until it stops or comes to its end
+pub record BootGoesOn (map : List Descriptor) (hosts : List HostRun) (table : Option Bits)
+    (slots areas cpus : ℕ) (calls : List ModuleCall) : Type 0 where
   pub boot : Boot
   pub uncalled : Uncalled map hosts table slots areas cpus boot
-  pub later : List ModuleCall
-  pub stop : Option Page
-  pub made : BootCalls map table boot (calls ++ later) stop
+  pub front : IsFront (BootCalls map table boot) calls
+
+-- no call was made, or a boot of the map goes on from those that were
+abbrev pub BootFront :
+    List Descriptor → List HostRun → Option Bits → ℕ → ℕ → ℕ → List ModuleCall → Type 0
+BootFront map hosts table slots areas cpus calls =
+    (calls ≡ []) ⊎ BootGoesOn map hosts table slots areas cpus calls

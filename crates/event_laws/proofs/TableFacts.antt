@@ -1,6 +1,6 @@
 -- What a table of unaccepted units that fits a map leaves pending.
 use Rattle.std.proofs.Common.{◌≡◌, ℕ, ◌+◌, ◌-◌, ◌*◌, ◌/◌, ◌<◌, ◌≤◌, Bool, true, false, ◌&&◌, None, Some, List, refl, sym, ◌∙◌, ap, inl, inr, arith, cond, nat_le}
-use Rattle.std.proofs.lemmas.Bool.{cases_Bool}
+use Rattle.std.proofs.lemmas.Bool.{cases_Bool, and_parts}
 use Rattle.std.proofs.lemmas.Bool.Decides.{nat_tests}
 use Rattle.std.proofs.Math.Nat.{div-mul-le_self, lt-div-mul-add}
 use Rattle.guest_base.specs.Ranges.{in_range}
@@ -16,10 +16,6 @@ use Rattle.event_core.specs.Units.{bit_of}
 use Rattle.event_laws.specs.Marked.{page_of_unit}
 use Rattle.event_laws.proofs.PlaceLemmas.{unit-some}
 use Rattle.event_laws.proofs.UnitFacts.{table-fits}
-
-both : (b c : Bool) → (b && c) ≡ true → (b ≡ true) × (c ≡ true)
-both true c h = (refl, h)
-both false c h = cc
 
 pub set-pending : (map : List Descriptor) (table : Bits) (unit page : ℕ) → FitsTable map table → bit_of table.bits unit ≡ true → page_of_unit table unit page ≡ true → first_by map (Some table) page ≡ Some Pending
 set-pending map table unit page fits set inside = rw (fits-page map table unit page fits set inside, marked-at table unit page set inside) refl
@@ -42,7 +38,7 @@ pub pending-marked : (map : List Descriptor) (table : Bits) (page : ℕ) → Fit
 pending-marked map table page fits =
     elim (cases_Bool (marks_page table page)) [
       | inl marked ↦
-          (let two = both (nat_le (table.base / 4096) page) (bit_of table.bits ((page - table.base / 4096) / (table.unit / 4096))) marked in
+          (let two = and_parts (nat_le (table.base / 4096) page) (bit_of table.bits ((page - table.base / 4096) / (table.unit / 4096))) marked in
           let size = table-fits table fits.is_table in
           let positive = unit-some table.unit table.base size in
           let is = size.unit_is in

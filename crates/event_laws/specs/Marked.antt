@@ -4,6 +4,7 @@ use Rattle.event_core.specs.Table.{Bits}
 
 -- The pages of the units of a table.
 
--- whether a page lies in a unit of a table (after Linux's unaccepted table: each unit begins a whole number of units behind the base)
+-- whether a page lies in a unit of a table (after Linux's unaccepted table: units lie one behind
+-- the other from the base on)
 abbrev pub page_of_unit : Bits → ℕ → ℕ → Bool
 page_of_unit table unit page = in_range (table.base / 4096 + unit * (table.unit / 4096)) (table.unit / 4096) page

@@ -1,12 +1,11 @@
 use Rattle.std.proofs.Common.{◌≡◌, ℕ, zero, suc, ◌<◌, Bool, true, List, [], ◌∷◌, sym, ◌∙◌, ap, refl, arith, length, map, get_or}
 use Rattle.std.specs.Prelude.{◌||◌}
 use Rattle.std.specs.List.{list_any}
-use Rattle.std.proofs.lemmas.List.Sorted.{list_any-IsPermutation}
 use Rattle.guest_base.specs.declared.memory.Pages.{Pages}
 use Rattle.guest_base.specs.declared.memory.PageRun.{PageRun}
 use Rattle.event_core.specs.declared.boot.Descriptor.{Descriptor}
 use Rattle.event_core.specs.Stub.{unaccepted}
-use Rattle.event_core.proofs.EarlyLemmas.{in_pages, early_in, or-left, or-right, any-flat}
+use Rattle.event_core.proofs.EarlyLemmas.{in_pages, early_in, or-left, or-right, in-early}
 use Rattle.unaccepted_bitmap.specs.StubMap.{EarlyRuns, pending_run}
 
 -- The early pieces as runs.
@@ -24,7 +23,5 @@ any-at test (run ∷ runs) (suc k) d within h = or-right (test run) (list_any te
 pub early-at : (map : List Descriptor) (runs : List PageRun) (k : ℕ) (d : PageRun) (page : ℕ) → EarlyRuns map runs → k < length runs → in_pages page (get_or runs k d).pages ≡ true → list_any (early_in page) (unaccepted map) ≡ true
 early-at map runs k d page early within inside =
     let any = any-at (λ (run : PageRun). in_pages page run.pages) runs k d within inside in
-    let pieces = early.early in
-    list_any-IsPermutation (early_in page) (unaccepted map) pieces.sorted pieces.same
-    ∙ sym (any-flat (in_pages page) pieces.sorted) ∙ ap (list_any (in_pages page)) (sym pieces.made)
-    ∙ sym (any-runs (in_pages page) early.pieces) ∙ ap (list_any (λ (run : PageRun). in_pages page run.pages)) (sym early.are) ∙ any
+    in-early map early.pieces page early.early
+    (sym (any-runs (in_pages page) early.pieces) ∙ ap (list_any (λ (run : PageRun). in_pages page run.pages)) (sym early.are) ∙ any)

@@ -16,14 +16,14 @@ use Rattle.event_core.specs.declared.boot.Descriptor.{Descriptor}
 use Rattle.event_core.specs.declared.boot.Boot.{Boot}
 use Rattle.event_core.specs.Cut.{cut, blocks_of, ram_ranges, without_pool}
 use Rattle.event_core.specs.Map.{MapRules}
-use Rattle.event_core.specs.Given.{FitsGiven, first_by, unit_by, base_by, length_by, bit_by}
+use Rattle.event_core.specs.Given.{first_by, unit_by, base_by, length_by, bit_by}
 use Rattle.event_core.specs.MemoryRows.{is_pending}
 use Rattle.event_core.specs.Runs.{AreMaximalRuns, GoesBefore, run_holds, run_end, state_in as first_state_of}
 use Rattle.event_core.specs.Stub.{default_unit, unaccepted, round_down, least_start, stub_base}
 use Rattle.event_core.specs.Units.{bit_of, bit_after, unit_count, unit_first, unit_pages}
 use Rattle.event_core.proofs.MapLemmas.{pending_first}
-use Rattle.event_core.proofs.BootFacts.{IsSize, unit-size, set-pending, set-unit, states-low, ram-low}
-use Rattle.event_core.proofs.EarlyLemmas.{all-apart, early-held, unaccepted-each, unaccepted-apart}
+use Rattle.event_core.proofs.BootFacts.{set-unit, states-low}
+use Rattle.event_core.proofs.EarlyLemmas.{pairs-tail, all-apart, early-held, unaccepted-each, unaccepted-apart}
 use Rattle.event_core.specs.Boot.{Uncalled}
 use Rattle.page_module.specs.States.{state_in}
 use Rattle.page_module.specs.Tables.{Rising}
@@ -44,15 +44,12 @@ use Rattle.guest_boot.proofs.EarlyLemmas.{early-at}
 pub ram-ends : (map : List Descriptor) (hosts : List HostRun) (table : Option Bits) (ram : List PageRun) → MapRules map hosts → AreMaximalRuns (first_by map table) ram → All (λ (run : PageRun). run_end run ≤ 2 ^ 28) ram
 ram-ends map hosts table ram rules maximal = runs-low (2 ^ 28) (first_by map table) ram maximal (states-low map hosts table rules)
 
-pairs-tail : (run : PageRun) (runs : List PageRun) → AllPairs GoesBefore (run ∷ runs) → AllPairs GoesBefore runs
-pairs-tail run runs pairs i j d lt high = pairs (suc i) (suc j) d (omega arith) (omega arith)
-
 behind-first : (run : PageRun) (runs : List PageRun) → AllPairs GoesBefore (run ∷ runs) → AllByRecursion (λ (r : PageRun). run_end run ≤ r.pages.first) runs
 behind-first run runs pairs = recursion_from_All (λ (r : PageRun). run_end run ≤ r.pages.first) runs (λ k d low. (pairs 0 (suc k) d (omega arith) (omega arith)).ends)
 
 rising-of : (from : ℕ) (runs : List PageRun) → AllByRecursion (λ (run : PageRun). 0 < run.pages.count) runs → AllByRecursion (λ (run : PageRun). run_end run ≤ 2 ^ 28) runs → AllPairs GoesBefore runs → AllByRecursion (λ (run : PageRun). from ≤ run.pages.first) runs → Rising from runs
 rising-of from [] some ends pairs low = tt
-rising-of from (run ∷ runs) some ends pairs low = (low.0, some.0, ends.0, rising-of (run_end run) runs some.1 ends.1 (pairs-tail run runs pairs) (behind-first run runs pairs))
+rising-of from (run ∷ runs) some ends pairs low = (low.0, some.0, ends.0, rising-of (run_end run) runs some.1 ends.1 (pairs-tail GoesBefore run runs pairs) (behind-first run runs pairs))
 
 from_zero : (runs : List PageRun) → AllByRecursion (λ (run : PageRun). 0 ≤ run.pages.first) runs
 from_zero [] = tt
@@ -102,18 +99,6 @@ first-bit boot unit some = elim (cases_Bool (nat_lt unit (unit_count boot.bits))
 ]
 
 -- ---- a boot without its calls
-
-pub is-booted : (map : List Descriptor) (hosts : List HostRun) (table : Option Bits) (slots areas cpus : ℕ) (boot : Boot) → MapRules map hosts → FitsGiven map table → Uncalled map hosts table slots areas cpus boot → cpus ≤ 64 → IsBooted boot
-is-booted map hosts table slots areas cpus boot rules fits plain few =
-    let size = subst (λ u. IsSize (u / 4096)) (sym plain.unit) (unit-size map table fits) in
-    let many = plain.same_cpus in
-    record {
-      pending = set-pending map hosts table slots areas cpus boot rules fits plain;
-      low = ram-low map hosts table slots areas cpus boot rules plain;
-      some = size.some;
-      small = size.small;
-      cpus = omega (arith, many, few);
-    }
 
 early-stub : (map : List Descriptor) (hosts : List HostRun) (slots areas cpus : ℕ) (boot : Boot) (runs : List PageRun) → MapRules map hosts → Uncalled map hosts None slots areas cpus boot → EarlyRuns map runs → All (λ (piece : PageRun). IsEarly boot piece.pages) runs
 early-stub map hosts slots areas cpus boot runs rules plain early k d within = record {

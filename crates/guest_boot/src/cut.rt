@@ -11,12 +11,14 @@ use guest_base::{Block, PageRun, Pages};
 use std::alloc::{AllocError, Global};
 
 /// The blocks into which RAM is cut, rising: of each maximal range of RAM pages, whatever their states, at each place the block of
-/// the greatest order up to 10 that may stand there. The runs rise; it fails only for want of memory.
+/// the greatest order up to 10 that may stand there. The runs rise; it fails only where memory runs out.
 pub(crate) fn cut_blocks(alloc: Global, ram: &Runs) -> Result<Vec<Block>, AllocError>
     requires low { All (λ run. run_end run ≤ 2 ^ 28) ram.now }
-    ensures blocks { IfOk result (λ blocks. blocks.items ≡ flat_map blocks_of (ram_ranges ram.now)) }
+    ensures blocks { IfOk result (λ blocks.
+        blocks.items ≡ flat_map blocks_of (ram_ranges ram.now)) }
     ensures orders { IfOk result (λ blocks. All (λ (b : BlockValue). b.order ≤ 10) blocks.items) }
-    ensures ends { IfOk result (λ blocks. All (λ (b : BlockValue). b.first + 2 ^ b.order ≤ 2 ^ 28) blocks.items) }
+    ensures ends { IfOk result (λ blocks.
+        All (λ (b : BlockValue). b.first + 2 ^ b.order ≤ 2 ^ 28) blocks.items) }
 {
     let mut blocks = Vec::new(alloc);
     for range in &ranges(alloc, ram.as_slice())? {

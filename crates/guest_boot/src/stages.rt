@@ -7,7 +7,7 @@ ghost use Rattle.guest_base.specs.declared.memory.PageRun.{PageRun as PageRunVal
 ghost use Rattle.event_core.specs.Boot.{InTurn, AcceptsPiece, AcceptsRange, AcceptsBlock};
 ghost use Rattle.memory_core.specs.Bitmaps.{bits_in, guarded_by};
 ghost use Rattle.memory_core.specs.Booted.{IsBooted};
-ghost use Rattle.guest_boot.specs.Booting.{StandsAfter, Grew, IsEarly, runs_in};
+ghost use Rattle.guest_boot.specs.Booting.{StandsAfter, WorkedOn, FaultsBy, AcceptsRunPiece, IsEarly, runs_in};
 
 use crate::accept::{Kept, accept_piece, accept_units};
 use crate::fault::BootFault;
@@ -29,13 +29,11 @@ pub(crate) fn accept_early<P: Port>(
     requires booted { IsBooted boot.now }
     requires stands { StandsAfter boot.now (P.made port.old) kept.old }
     requires early { All (λ (piece : PageRunValue). IsEarly boot.now piece.pages) pieces.now }
-    ensures stands { OnOk result (StandsAfter boot.now (P.made port.new) kept.new) }
-    ensures made { OnOk result (Grew (P.made port.old) (P.made port.new)
-        (λ now. InTurn (λ before (piece : PageRunValue). AcceptsPiece boot.now before piece.pages) (P.made port.old) pieces.now now None)) }
-    ensures stopped { (page : PageValue) → result ≡ Err (BootFault.Module page) → Grew (P.made port.old) (P.made port.new)
-        (λ now. InTurn (λ before (piece : PageRunValue). AcceptsPiece boot.now before piece.pages) (P.made port.old) pieces.now now (Some page)) }
-    ensures failed { (page : PageValue) → result ≡ Err (BootFault.Module page) → Rose (P.faults port.old) (P.faults port.new) }
-    ensures faults { P.faults port.old ≤ P.faults port.new }
+    ensures done { WorkedOn boot.now
+        (InTurn (AcceptsRunPiece boot.now) (P.made port.old) pieces.now)
+        (P.made port.old) (P.made port.new) kept.new result }
+    ensures faults { FaultsBy (P.faults port.old) (P.faults port.new) result }
+    ensures never_fails { P.never_fails port.old → P.never_fails port.new }
 {
     for piece in pieces {
         accept_piece(alloc, boot, kept, port, piece.pages)?;
@@ -52,7 +50,8 @@ fn unaccepted_runs(
 ) -> Result<Vec<Units>, AllocError>
     requires some { 1 ≤ len }
     requires end { start + len ≤ 2 ^ 40 }
-    ensures { IfOk result (λ runs. runs.items ≡ runs_in (bits_in bits.now) (guarded_by bits.now start len)) }
+    ensures { IfOk result (λ runs.
+        runs.items ≡ runs_in (bits_in bits.now) (guarded_by bits.now start len)) }
 {
     match bits {
         Some(bits) => match bits.claim_units(start, len) {
@@ -91,12 +90,10 @@ fn accept_range<P: Port>(
     requires end { start + len ≤ 2 ^ 40 }
     requires booted { IsBooted boot.now }
     requires stands { StandsAfter boot.now (P.made port.old) kept.old }
-    ensures stands { OnOk result (StandsAfter boot.now (P.made port.new) kept.new) }
-    ensures made { OnOk result (Grew (P.made port.old) (P.made port.new) (λ now. AcceptsRange boot.now (P.made port.old) start len now None)) }
-    ensures stopped { (page : PageValue) → result ≡ Err (BootFault.Module page)
-        → Grew (P.made port.old) (P.made port.new) (λ now. AcceptsRange boot.now (P.made port.old) start len now (Some page)) }
-    ensures failed { (page : PageValue) → result ≡ Err (BootFault.Module page) → Rose (P.faults port.old) (P.faults port.new) }
-    ensures faults { P.faults port.old ≤ P.faults port.new }
+    ensures done { WorkedOn boot.now (AcceptsRange boot.now (P.made port.old) start len)
+        (P.made port.old) (P.made port.new) kept.new result }
+    ensures faults { FaultsBy (P.faults port.old) (P.faults port.new) result }
+    ensures never_fails { P.never_fails port.old → P.never_fails port.new }
 {
     let runs = unaccepted_runs(alloc, &kept.bits, start, len)?;
     for run in runs.as_slice() {
@@ -117,12 +114,10 @@ fn accept_block<P: Port>(
     requires low { block.first + 2 ^ block.order ≤ 2 ^ 28 }
     requires booted { IsBooted boot.now }
     requires stands { StandsAfter boot.now (P.made port.old) kept.old }
-    ensures stands { OnOk result (StandsAfter boot.now (P.made port.new) kept.new) }
-    ensures made { OnOk result (Grew (P.made port.old) (P.made port.new) (λ now. AcceptsBlock boot.now (P.made port.old) block now None)) }
-    ensures stopped { (page : PageValue) → result ≡ Err (BootFault.Module page)
-        → Grew (P.made port.old) (P.made port.new) (λ now. AcceptsBlock boot.now (P.made port.old) block now (Some page)) }
-    ensures failed { (page : PageValue) → result ≡ Err (BootFault.Module page) → Rose (P.faults port.old) (P.faults port.new) }
-    ensures faults { P.faults port.old ≤ P.faults port.new }
+    ensures done { WorkedOn boot.now (AcceptsBlock boot.now (P.made port.old) block)
+        (P.made port.old) (P.made port.new) kept.new result }
+    ensures faults { FaultsBy (P.faults port.old) (P.faults port.new) result }
+    ensures never_fails { P.never_fails port.old → P.never_fails port.new }
 {
     if block.order == MAX_ORDER {
         return Ok(());
@@ -138,7 +133,7 @@ fn accept_block<P: Port>(
     )
 }
 
-/// Accepts the blocks below 4 MiB, one after another.
+/// Accepts the blocks smaller than 4 MiB, one after another.
 pub(crate) fn accept_blocks<P: Port>(
     alloc: Global,
     boot: &Boot,
@@ -150,12 +145,10 @@ pub(crate) fn accept_blocks<P: Port>(
     requires low { All (λ (b : BlockValue). b.first + 2 ^ b.order ≤ 2 ^ 28) blocks.now }
     requires booted { IsBooted boot.now }
     requires stands { StandsAfter boot.now (P.made port.old) kept.old }
-    ensures stands { OnOk result (StandsAfter boot.now (P.made port.new) kept.new) }
-    ensures made { OnOk result (Grew (P.made port.old) (P.made port.new) (λ now. InTurn (AcceptsBlock boot.now) (P.made port.old) blocks.now now None)) }
-    ensures stopped { (page : PageValue) → result ≡ Err (BootFault.Module page)
-        → Grew (P.made port.old) (P.made port.new) (λ now. InTurn (AcceptsBlock boot.now) (P.made port.old) blocks.now now (Some page)) }
-    ensures failed { (page : PageValue) → result ≡ Err (BootFault.Module page) → Rose (P.faults port.old) (P.faults port.new) }
-    ensures faults { P.faults port.old ≤ P.faults port.new }
+    ensures done { WorkedOn boot.now (InTurn (AcceptsBlock boot.now) (P.made port.old) blocks.now)
+        (P.made port.old) (P.made port.new) kept.new result }
+    ensures faults { FaultsBy (P.faults port.old) (P.faults port.new) result }
+    ensures never_fails { P.never_fails port.old → P.never_fails port.new }
 {
     for block in blocks {
         accept_block(alloc, boot, kept, port, *block)?;
