@@ -11,7 +11,6 @@ use Rattle.event_core.specs.Legal.{ComesBefore}
 use Rattle.event_core.specs.Turns.{entries_by}
 use Rattle.event_core.specs.Locally.{Rising}
 use Rattle.event_core.proofs.RisingLemmas.{filter-at, pairs-nil, pairs-head, pairs-tail, before-one-way, has_key_of, same-by-key}
-use Rattle.guest_history.specs.Agreeing.{IsBy}
 
 -- Lists of entries end to end, and a stable sort of them by stamp.
 
@@ -56,6 +55,10 @@ all-both P p others (x ∷ xs) all =
 
 abbrev pub joined : List (List Entry) → List Entry
 joined lists = flat_map (λ (list : List Entry). list) lists
+
+-- an entry names a processor
+abbrev IsBy : ℕ → Entry → Type 0
+IsBy cpu entry = entry.cpu.0 ≡ cpu
 
 -- the lists name the processors from one on
 abbrev NamedFrom : ℕ → List (List Entry) → Type 0

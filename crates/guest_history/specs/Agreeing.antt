@@ -11,10 +11,6 @@ use Rattle.event_core.specs.Locally.{Rising}
 
 -- The lists of processors and of locks that agree, before there is one history of them (own rule).
 
--- an entry names a processor
-abbrev pub IsBy : ℕ → Entry → Type 0
-IsBy cpu entry = entry.cpu.0 ≡ cpu
-
 -- lists of entries are those of the processors, in the order of their numbers; a number without a
 -- list has made no entry
 abbrev pub AreMadeBy : List (List Entry) → Lists → Type 0

@@ -5,7 +5,7 @@ ghost use Rattle.event_core.specs.Legal.{Legal, Whole, with_moved};
 ghost use Rattle.event_core.specs.Splits.{Lists, SplitsInto};
 ghost use Rattle.event_core.specs.Locally.{Rising, EachFollows};
 ghost use Rattle.event_core.specs.Turns.{entries_by, TakenIn, Turned};
-ghost use Rattle.guest_history.specs.Agreeing.{IsBy, AreMadeBy, Agree, AllReplied};
+ghost use Rattle.guest_history.specs.Agreeing.{AreMadeBy, Agree, AllReplied};
 
 use event_core::{Boot, Entry, EntryLists, Order, Recorded, Scripts};
 use guest_base::{CpuNo, Items};
@@ -20,7 +20,7 @@ pub fn gather(
     lists: EntryLists,
 ) -> Result<Recorded, AllocError>
     requires named { (cpu : ℕ) (list : List EntryValue) → slice_get lists cpu ≡ Some list →
-        All (IsBy cpu) list }
+        All (λ e. e.cpu.0 ≡ cpu) list }
     requires rise { All Rising lists }
     ensures boot { IfOk result (λ r. r.boot ≡ boot) }
     ensures scripts { IfOk result (λ r. r.scripts ≡ scripts) }

@@ -1,6 +1,5 @@
 ghost use Rattle.std.specs.Prelude.{◌≡◌, All, IfOk};
 ghost use Rattle.event_core.specs.Locally.{Rising};
-ghost use Rattle.guest_history.specs.Agreeing.{IsBy};
 
 use crate::{gather, order_of};
 use event_core::{Boot, Entries, Entry, Event, Place, Recorded};
@@ -26,7 +25,7 @@ fn boot(alloc: Global) -> Boot {
 
 /// The list of one processor's one entry.
 fn made_at(alloc: Global, stamp: u128, cpu: u32) -> Result<Entries, AllocError>
-    ensures named { IfOk result (λ list. All (IsBy cpu) list) }
+    ensures named { IfOk result (λ list. All (λ e. e.cpu.0 ≡ cpu) list) }
     ensures rises { IfOk result (λ list. Rising list) }
 {
     let entry = Entry {
