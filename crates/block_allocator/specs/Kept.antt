@@ -1,5 +1,6 @@
 use Rattle.std.specs.Prelude.{◌≡◌, ℕ, ◌+◌, ◌*◌, ◌/◌, ◌^◌, ◌<◌, ◌≤◌, ◌==◌, ◌&&◌, Bool, true, false, List, length, slice_index_or}
 use Rattle.std.specs.List.{list_any}
+use Rattle.guest_base.specs.declared.limits.TheConstants.{PAGE_END}
 use Rattle.block_allocator.specs.declared.buddy_block.BuddyBlock.{BuddyBlock}
 
 -- a block's place among others: by order, then by address
@@ -32,7 +33,7 @@ covers xs page = list_any (holds_page page) xs
 pub record Buddies (kept : ℕ → ℕ → Bool) : Type 0 where
   -- no order is above 10, and no page is beyond 2^28
   pub form : (order number : ℕ) → kept order number ≡ true
-      → (order ≤ 10) × ((number + 1) * 2 ^ order ≤ 2 ^ 28)
+      → (order ≤ 10) × ((number + 1) * 2 ^ order ≤ PAGE_END)
   -- a page lies in at most one of them
   pub apart : (page order other : ℕ) → kept order (page / 2 ^ order) ≡ true
       → kept other (page / 2 ^ other) ≡ true → order ≡ other
@@ -45,5 +46,5 @@ pub record Buddies (kept : ℕ → ℕ → Bool) : Type 0 where
 pub record Beside (kept_blocks : List BuddyBlock) (b : BuddyBlock) : Type 0 where
   pub buddies : Buddies (kept kept_blocks)
   pub order : b.order ≤ 10
-  pub end : (b.number + 1) * 2 ^ b.order ≤ 2 ^ 28
+  pub end : (b.number + 1) * 2 ^ b.order ≤ PAGE_END
   pub apart : (page : ℕ) → holds_page page b ≡ true → covers kept_blocks page ≡ false

@@ -1,5 +1,6 @@
 use Rattle.std.specs.Prelude.{◌≡◌, ℕ, ◌+◌, ◌*◌, ◌/◌, ◌%◌, ◌^◌, ◌≤◌, ◌==◌, ◌&&◌, not, Bool, true, false, List}
 use Rattle.std.specs.List.{list_any}
+use Rattle.guest_base.specs.declared.limits.TheConstants.{PAGE_END}
 use Rattle.guest_base.specs.Ranges.{InRange, in_range}
 use Rattle.guest_base.specs.declared.memory.Block.{Block}
 use Rattle.block_allocator.specs.declared.buddy_block.BuddyBlock.{BuddyBlock}
@@ -31,7 +32,7 @@ pub record Apart (v : State) : Type 0 where
 -- a block of this order, which begins at a multiple of its size and ends at page 2^28 at most
 abbrev pub IsBlock : ℕ → Block → Type 0
 IsBlock order block =
-    (block.order ≡ order) × (block.first % 2 ^ order ≡ 0) × (block.first + 2 ^ order ≤ 2 ^ 28)
+    (block.order ≡ order) × (block.first % 2 ^ order ≡ 0) × (block.first + 2 ^ order ≤ PAGE_END)
 
 -- the block waits, and no waiting block begins before it
 abbrev pub IsLowestWaiting : State → Block → Type 0
@@ -49,7 +50,7 @@ Takes order block old new =
 pub record MayPut (v : State) (block : Block) : Type 0 where
   pub order : block.order ≤ 10
   pub aligned : block.first % 2 ^ block.order ≡ 0
-  pub end : block.first + 2 ^ block.order ≤ 2 ^ 28
+  pub end : block.first + 2 ^ block.order ≤ PAGE_END
   pub not_free : (page : ℕ) → InRange block.first (2 ^ block.order) page → is_free v page ≡ false
   pub not_waiting : (page : ℕ) → InRange block.first (2 ^ block.order) page
       → page_waits v page ≡ false
@@ -60,5 +61,5 @@ pub record IsSound (free waiting : List BuddyBlock) : Type 0 where
   pub buddies : Buddies (kept free)
   pub waiting_rises : Rises waiting
   pub waiting_form : (order number : ℕ) → kept waiting order number ≡ true
-      → (order ≡ 10) × ((number + 1) * 2 ^ 10 ≤ 2 ^ 28)
+      → (order ≡ 10) × ((number + 1) * 2 ^ 10 ≤ PAGE_END)
   pub apart : (page : ℕ) → covers free page ≡ true → covers waiting page ≡ false

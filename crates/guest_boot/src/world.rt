@@ -61,7 +61,8 @@ pub fn boot<P: Port>(
     ensures made { IfOk result (λ w. P.made port.new ≡ w.boot.calls) }
     ensures stopped { (page : PageValue) → result ≡ Err (BootFault.Module page)
         → BootStopped map.now.descriptors map.now.hosts table 0 areas cpus (P.made port.new) page }
-    ensures front { BootFront map.now.descriptors map.now.hosts table 0 areas cpus (P.made port.new) }
+    ensures front { BootFront map.now.descriptors map.now.hosts table 0 areas cpus
+        (P.made port.new) }
     ensures failed { (page : PageValue) → result ≡ Err (BootFault.Module page)
         → Rose (P.faults port.old) (P.faults port.new) }
     ensures faults { P.faults port.old ≤ P.faults port.new }

@@ -1,4 +1,5 @@
 use Rattle.std.specs.Prelude.{ℕ, List, [], ◌∷◌, Option, None, Some, Bool, false, ◌≡◌, ◌+◌, ◌*◌, ◌/◌, ◌^◌, ◌<◌, length, slice_get, not, ◌&&◌, if◌then◌else◌}
+use Rattle.guest_base.specs.declared.limits.TheConstants.{PAGE_BYTES, ADDRESS_END}
 use Rattle.guest_base.specs.Ranges.{in_range}
 use Rattle.guest_base.specs.Search.{any_such, count_such}
 use Rattle.guest_base.specs.declared.memory.Pages.{Pages}
@@ -36,10 +37,10 @@ any_in test (Some units) = any_such test units.first units.count
 
 -- the pages of a unit, and the first of them
 abbrev pub unit_pages_of : Bits → ℕ
-unit_pages_of b = b.unit / 4096
+unit_pages_of b = b.unit / PAGE_BYTES
 
 abbrev pub unit_first_of : Bits → ℕ → ℕ
-unit_first_of b unit = b.base / 4096 + unit * unit_pages_of b
+unit_first_of b unit = b.base / PAGE_BYTES + unit * unit_pages_of b
 
 -- of the units of a range those keep their bits in which a page is pending; no other bit changes
 pub record ClearedBy (old new : Bits) (pending : ℕ → Bool) (first count : ℕ) : Type 0 where
@@ -65,7 +66,7 @@ abbrev pub PagesOf : Option Bits → Units → Pages → Type 0
 PagesOf None run pages = ⊥
 PagesOf (Some b) run pages =
     (pages.first ≡ unit_first_of b run.first) × (pages.count ≡ run.count * unit_pages_of b)
-    × (pages.first + pages.count < 2 ^ 40)
+    × (pages.first + pages.count < ADDRESS_END)
 
 -- the number of a run's units without a pending page
 abbrev pub cleared_count : Bits → (ℕ → Bool) → Units → ℕ

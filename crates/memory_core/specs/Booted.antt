@@ -1,4 +1,5 @@
 use Rattle.std.specs.Prelude.{ℕ, List, None, Some, true, ◌≡◌, ◌≢◌, ◌%◌, ◌^◌, ◌≤◌, ◌<◌}
+use Rattle.guest_base.specs.declared.limits.TheConstants.{PAGE_END, MAX_CPUS}
 use Rattle.guest_base.specs.Ranges.{in_range}
 use Rattle.guest_base.specs.declared.memory.PageState.TheVariants.{Pending}
 use Rattle.event_core.specs.declared.boot.Boot.{Boot}
@@ -15,12 +16,12 @@ pub record IsBooted (boot : Boot) : Type 0 where
   pub pending : (unit page : ℕ) → bit_of boot.bits unit ≡ true
       → in_range (unit_first boot unit) (unit_pages boot) page ≡ true
       → state_in boot.ram page ≡ Some Pending
-  pub low : (page : ℕ) → state_in boot.ram page ≢ None → page < 2 ^ 28
+  pub low : (page : ℕ) → state_in boot.ram page ≢ None → page < PAGE_END
   pub some : 0 < unit_pages boot
   pub small : unit_pages boot ≤ 512
   pub unit_is : is_unit boot.unit ≡ true
   pub aligned : boot.base % boot.unit ≡ 0
-  pub cpus : boot.cpus ≤ 64
+  pub cpus : boot.cpus ≤ MAX_CPUS
 
 -- a page of an unaccepted unit is unaccepted exactly where it is pending
 abbrev pub MarksArePending : Boot → List ModuleCall → Type 0

@@ -1,5 +1,6 @@
 use Rattle.std.specs.Prelude.{ℕ, List, [], ◌∷◌, ◌++◌, Option, None, Some, false, ◌≡◌, ◌+◌, ◌^◌, ◌<◌, ◌≤◌, fold, max, if◌then◌else◌}
 use Rattle.std.specs.Option.{option_map_or}
+use Rattle.guest_base.specs.declared.limits.TheConstants.{ADDRESS_END, PAGE_END}
 use Rattle.guest_base.specs.Ranges.{in_range}
 use Rattle.guest_base.specs.Search.{count_such}
 use Rattle.guest_base.specs.declared.memory.Pages.{Pages}
@@ -43,7 +44,7 @@ bare_entry turn last event = record {
 -- a range of bytes has a byte, and ends at 2^40 at most
 pub record IsByteRange (start len : ℕ) : Type 0 where
   pub some : 1 ≤ len
-  pub end : start + len ≤ 2 ^ 40
+  pub end : start + len ≤ ADDRESS_END
 
 -- a processor may begin a step that accepts this many units: it has no open claim, stamps are left,
 -- and there is room
@@ -93,7 +94,7 @@ pub record IsOutFor (memory : MemoryValue) (cpu : ℕ) (run : Units) (span : Tak
   pub room : ℕ
   pub handed : handed_to memory cpu ≡ Some (record { ticket = span.ticket; room = room })
   pub has : HasStates memory.boot (calls_of memory.boot memory.entries) run span
-  pub low : span.ticket.pages.first + span.ticket.pages.count ≤ 2 ^ 28
+  pub low : span.ticket.pages.first + span.ticket.pages.count ≤ PAGE_END
 
 -- calls brought the span from the states in which it is out, with this end
 pub record BringsTo (boot : Boot) (before : List ModuleCall) (run : Units) (span : Taken)
