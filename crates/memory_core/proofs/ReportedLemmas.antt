@@ -1,4 +1,4 @@
-use Rattle.std.proofs.Common.{◌≡◌, ℕ, ◌+◌, ◌^◌, ◌<◌, ◌≤◌, true, Option, None, Some, List, [], ◌∷◌, ◌++◌, max, sym, ◌∙◌, ap, subst, arith, cond}
+use Rattle.std.proofs.Common.{◌≡◌, ℕ, ◌+◌, ◌^◌, ◌<◌, ◌≤◌, true, Option, None, Some, List, [], ◌∷◌, ◌++◌, refl, max, sym, ◌∙◌, ap, subst, arith, cond}
 use Rattle.std.specs.Prelude.{slice_set, sum_by, IfSome}
 use Rattle.std.proofs.lemmas.List.Sums.{sum_by-set}
 use Rattle.guest_base.specs.Ranges.{in_range}
@@ -28,10 +28,10 @@ use Rattle.accepting_ranges.proofs.ClaimLemmas.{kept_of-inside}
 use Rattle.memory_core.specs.Answers.{ReportedBy, Closes, OthersKeep, answer_at}
 use Rattle.memory_core.specs.Bitmaps.{bits_in, SameBits, ClearedIn, next_of}
 use Rattle.memory_core.specs.Value.{MemoryValue, Handed, handed_to}
-use Rattle.memory_core.specs.Steps.{BringsTo, bare_entry, last_stamp}
+use Rattle.memory_core.specs.Steps.{BringsTo, Appends, bare_entry, last_stamp}
 use Rattle.memory_core.specs.StandsFor.{HoldsFor, handed_for, reports_of}
 use Rattle.memory_core.specs.declared.claims.OpenClaim.{OpenClaim}
-use Rattle.memory_core.proofs.BegunLemmas.{seen}
+use Rattle.memory_core.proofs.BegunLemmas.{seen, appends-of}
 use Rattle.memory_core.proofs.CloseLemmas.{ReportsIn}
 use Rattle.memory_core.proofs.HoldsLemmas.{kept-open}
 use Rattle.memory_core.proofs.KeptLemmas.{set-twice}
@@ -148,3 +148,14 @@ kept-next claims left claims' cpu cpu' k next rest is same made =
 pub reported-closed : (old new : MemoryValue) (turn : Turn) (claim : Claimed) (calls : List ModuleCall) (end : RunEnd) (count : ℕ) → stop_of calls ≡ stopped_at end → next_run old.boot claim (stop_of calls) ≡ None → count ≡ cleared_by old.boot old.entries claim calls → Closes old new turn.cpu.0 → ReportedBy old new turn claim calls (answer_at end count)
 reported-closed old new turn claim calls Whole count stop none is closes = (stop, none, is, closes)
 reported-closed old new turn claim calls (Stopped page) count stop none is closes = (λ no. (let bad : Some page ≡ None = sym stop ∙ no in cc), closes)
+
+-- the entry of the report was appended
+pub appends-reported : (boot : Boot) (entries : List Entry) (claims : List (Option OpenClaim)) (room : ℕ) (v new : MemoryValue) (turn turned : Turn) (last : ℕ) (claim claim' : Claimed) (now : List ModuleCall)
+    → seen boot entries claims room ≡ v → claim_of v.boot v.entries turn.cpu.0 ≡ Some claim → claim_of v.boot v.entries turn.cpu.0 ≡ Some claim'
+    → new.boot ≡ boot → new.entries ≡ entries ++ bare_entry turn last (report_event boot claim now) ∷ [] → last ≡ last_stamp entries → turned ≡ record turn { clock = max turn.clock last + 1 }
+    → Appends v new turn turned (report_event v.boot claim' now)
+appends-reported boot entries claims room v new turn turned last claim claim' now view is_claim is_claim' same made last_is clock =
+    let P : MemoryValue → Type 0 = λ m. Appends m new turn turned (report_event m.boot claim now) in
+    let Q : Claimed → Type 0 = λ x. Appends v new turn turned (report_event v.boot x now) in
+    subst Q (same-claim (claim_of v.boot v.entries turn.cpu.0) claim claim' is_claim is_claim')
+    (subst P view (appends-of (seen boot entries claims room) new turn turned last (report_event boot claim now) (report_event boot claim now) same made last_is refl clock))

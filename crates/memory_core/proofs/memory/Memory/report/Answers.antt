@@ -5,7 +5,7 @@ use Rattle.guest_base.specs.declared.memory.Units.{Units}
 use Rattle.event_core.specs.declared.entry.Turn.{Turn}
 use Rattle.event_core.specs.Calls.{calls_of}
 use Rattle.event_core.specs.Claims.{Claimed, claim_of}
-use Rattle.event_core.specs.MemoryRows.{next_run, report_event, pages_first, pages_count}
+use Rattle.event_core.specs.MemoryRows.{next_run, pages_first, pages_count}
 use Rattle.event_core.specs.Acceptance.{stop_of}
 use Rattle.event_core.specs.Units.{unit_pages}
 use Rattle.page_module.specs.States.{state_in}
@@ -17,19 +17,18 @@ use Rattle.accepting_ranges.proofs.ClaimLemmas.{kept_of-inside}
 use Rattle.memory_core.specs.Bitmaps.{bits_in}
 use Rattle.memory_core.specs.Answers.{GoesOn, ReportedBy, OthersKeep, answer_at}
 use Rattle.memory_core.specs.OpenClaims.{units_of}
-use Rattle.memory_core.specs.Steps.{Appends}
 use Rattle.memory_core.specs.StandsFor.{pieces_for}
 use Rattle.memory_core.specs.Value.{MemoryValue}
 use Rattle.memory_core.specs.declared.claims.OpenClaim.{OpenClaim}
 use Rattle.memory_core.specs.declared.memory.Reported.{Reported}
-use Rattle.memory_core.proofs.BegunLemmas.{seen, appends-of, goes-on-of, closes-of}
+use Rattle.memory_core.proofs.BegunLemmas.{seen, goes-on-of, closes-of}
 use Rattle.memory_core.proofs.BitsLemmas.{run-pages-are, cleared-same}
 use Rattle.memory_core.proofs.CloseLemmas.{stands-closed, stands-next, calls-after}
 use Rattle.memory_core.proofs.KeptLemmas.{opened-less}
 use Rattle.memory_core.proofs.HoldsLemmas.{kept-open}
 use Rattle.memory_core.proofs.OpenLemmas.{kept-same, room-take, runs-few}
 use Rattle.memory_core.proofs.ReportLemmas.{opened, next-here, next-low, next-has}
-use Rattle.memory_core.proofs.ReportedLemmas.{same-claim, reports-of, kept-covers, kept-next, clock-kept, next-opens, next-found, entries-are, cleared-is, others-reported, reported-closed}
+use Rattle.memory_core.proofs.ReportedLemmas.{same-claim, reports-of, kept-covers, kept-next, clock-kept, next-opens, next-found, entries-are, cleared-is, others-reported, reported-closed, appends-reported}
 use Rattle.memory_core.proofs.memory.Memory.report.Goals as goal
 
 pub clear_run-requires-clause-set : goal.clear_run-requires-clause-set
@@ -189,13 +188,7 @@ returns-in-Some-clause-appends c claim' has =
     let r = reports-of i.boot.value i.entries.items i.accepting i.room c.args.self.now c.args.calls i.table c.put.new.self i.bits c.clear_run.new.bits c.args.turn.now.cpu.0 c.remove-claim.result c.requires.brings.0 c.args.span c.args.end c.clear_run.result c.self.view_is s.holds s.same_bits s.booted.some
     c.requires.brings.1 c.remove-claim.ensures.taken c.requires.out c.requires.brings.2 c.clear_run.ensures.cleared c.put.ensures.states c.put.ensures.out in
     let entries = entries-are i.boot.value i.entries.items c.args.calls i.table c.put.new.self i.bits c.clear_run.new.bits i.accepting c.args.turn.now.cpu.0 c.remove-claim.result c.requires.brings.0 c.args.span c.args.end c.clear_run.result r c.append.new.entries.items c.args.turn.now i.last c.stopped_page.result c.next_run_of-next.result c.stopped_page.ensures c.next_run_of-next.ensures c.append.ensures.entries in
-    let same = same-claim (claim_of c.args.self.now.boot c.args.self.now.entries c.args.turn.now.cpu.0) c.requires.brings.0 claim' c.requires.brings.1 has in
-    let new = seen i.boot.value c.append.new.entries.items c.add.new.self 0 in
-    let P : MemoryValue → Type 0 = λ m. Appends m new c.args.turn.now c.append.new.turn (report_event m.boot c.requires.brings.0 c.args.calls) in
-    let Q : Claimed → Type 0 = λ x. Appends c.args.self.now new c.args.turn.now c.append.new.turn (report_event c.args.self.now.boot x c.args.calls) in
-    subst Q same
-    (subst P c.self.view_is
-    (appends-of (seen i.boot.value i.entries.items i.accepting i.room) new c.args.turn.now c.append.new.turn i.last (report_event i.boot.value c.requires.brings.0 c.args.calls) (report_event i.boot.value c.requires.brings.0 c.args.calls) refl entries s.last_is refl c.append.ensures.turn))
+    appends-reported i.boot.value i.entries.items i.accepting i.room c.args.self.now (seen i.boot.value c.append.new.entries.items c.add.new.self 0) c.args.turn.now c.append.new.turn i.last c.requires.brings.0 claim' c.args.calls c.self.view_is c.requires.brings.1 has refl entries s.last_is c.append.ensures.turn
 
 pub returns-in-Some-clause-others : goal.returns-in-Some-clause-others
 returns-in-Some-clause-others c =
@@ -238,13 +231,7 @@ returns-in-None-clause-appends c claim' has =
     let r = reports-of i.boot.value i.entries.items i.accepting i.room c.args.self.now c.args.calls i.table c.put.new.self i.bits c.clear_run.new.bits c.args.turn.now.cpu.0 c.remove-claim.result c.requires.brings.0 c.args.span c.args.end c.clear_run.result c.self.view_is s.holds s.same_bits s.booted.some
     c.requires.brings.1 c.remove-claim.ensures.taken c.requires.out c.requires.brings.2 c.clear_run.ensures.cleared c.put.ensures.states c.put.ensures.out in
     let entries = entries-are i.boot.value i.entries.items c.args.calls i.table c.put.new.self i.bits c.clear_run.new.bits i.accepting c.args.turn.now.cpu.0 c.remove-claim.result c.requires.brings.0 c.args.span c.args.end c.clear_run.result r c.append.new.entries.items c.args.turn.now i.last c.stopped_page.result c.next_run_of-next.result c.stopped_page.ensures c.next_run_of-next.ensures c.append.ensures.entries in
-    let same = same-claim (claim_of c.args.self.now.boot c.args.self.now.entries c.args.turn.now.cpu.0) c.requires.brings.0 claim' c.requires.brings.1 has in
-    let new = seen i.boot.value c.append.new.entries.items c.remove-claim.new.self i.room in
-    let P : MemoryValue → Type 0 = λ m. Appends m new c.args.turn.now c.append.new.turn (report_event m.boot c.requires.brings.0 c.args.calls) in
-    let Q : Claimed → Type 0 = λ x. Appends c.args.self.now new c.args.turn.now c.append.new.turn (report_event c.args.self.now.boot x c.args.calls) in
-    subst Q same
-    (subst P c.self.view_is
-    (appends-of (seen i.boot.value i.entries.items i.accepting i.room) new c.args.turn.now c.append.new.turn i.last (report_event i.boot.value c.requires.brings.0 c.args.calls) (report_event i.boot.value c.requires.brings.0 c.args.calls) refl entries s.last_is refl c.append.ensures.turn))
+    appends-reported i.boot.value i.entries.items i.accepting i.room c.args.self.now (seen i.boot.value c.append.new.entries.items c.remove-claim.new.self i.room) c.args.turn.now c.append.new.turn i.last c.requires.brings.0 claim' c.args.calls c.self.view_is c.requires.brings.1 has refl entries s.last_is c.append.ensures.turn
 
 pub returns-in-None-clause-others : goal.returns-in-None-clause-others
 returns-in-None-clause-others c =
