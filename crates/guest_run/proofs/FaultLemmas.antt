@@ -1,5 +1,5 @@
 use Rattle.std.proofs.Common.{◌≡◌, ◌≢◌, ℕ, ◌≤◌, Bool, true, false, ◌||◌, None, Option, List, [], ◌∷◌, ◌++◌, refl, sym, ◌∙◌, ap, inl, inr, arith}
-use Rattle.std.specs.Prelude.{Result, Ok, Err, OnOk}
+use Rattle.std.specs.Prelude.{Result, Ok, Err, OnOk, OnErr}
 use Rattle.std.proofs.lemmas.Bool.{cases_Bool, cases_lt}
 use Rattle.std.proofs.lemmas.List.Folds.{list_any-append}
 use Rattle.guest_base.specs.Counts.{Rose}
@@ -63,3 +63,8 @@ same_told old new before after same told = λ some. told (sym same ∙ some)
 pub on_ok : {T E A B : Type 0} (result : Result T E) → (A → B) → OnOk result A → OnOk result B
 on_ok (Ok x) f h = f h
 on_ok (Err e) f h = h
+
+-- what holds anyway holds where memory ran out
+pub on_err : {T E A : Type 0} (result : Result T E) → A → OnErr result A
+on_err (Ok x) a = tt
+on_err (Err e) a = a

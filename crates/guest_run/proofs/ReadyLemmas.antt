@@ -40,7 +40,8 @@ use Rattle.guest_run.specs.declared.processor.Processor.{Processor}
 use Rattle.guest_run.specs.Running.{At, made_entry}
 use Rattle.guest_run.specs.Ready.{Ready, Claiming, EndsOr, calls_by_now, next_turn}
 use Rattle.guest_run.specs.Answered.{begun_with, span_in, reply_in, IsRunOf}
-use Rattle.guest_run.proofs.OneProcessor.{last-low, clear-way}
+use Rattle.guest_run.specs.Recordings.{HaltedAt}
+use Rattle.guest_run.proofs.OneProcessor.{last-low, clear-way, there-calls, running-placed}
 use Rattle.guest_run.proofs.AtLemmas.{at-refused, at-query, at-claim, at-report, query_step, claim_made, report_made, bare_made, number_after}
 use Rattle.guest_run.proofs.SpanLemmas.{same-units, pages-behind, pages-some, span-accepts}
 
@@ -357,3 +358,32 @@ report-further boot old new turn claim calls (Next s) span same same' size some 
     let a = ap (λ (x : Pages). x.first) is in
     let b = ap (λ (x : Pages). x.first) pages in
     omega (arith, less, a, b)
+
+-- ---- where memory runs out
+
+-- the calls so far are those of a legal history
+halted-at : (p : Processor) (number : ℕ) (claim : Option Claimed) (made : List ModuleCall) → At p.boot p.script p.entries p.memory.entries number claim → made ≡ calls_by_now p → HaltedAt p.boot p.script made
+halted-at p number claim made at is =
+    (p.entries, at.running.legal, is ∙ ap (calls_of p.boot) at.there ∙ there-calls p.boot (p.script ∷ []) p.entries (running-placed p.boot (p.script ∷ []) p.entries (length p.entries) at.running))
+
+pub ready-halted : (p : Processor) (number : ℕ) (made : List ModuleCall) → Ready p number → made ≡ calls_by_now p → HaltedAt p.boot p.script made
+ready-halted p number made ready is = halted-at p number None made ready.at is
+
+pub claiming-halted : (p : Processor) (number : ℕ) (span : Taken) (made : List ModuleCall) → Claiming p number span → made ≡ calls_by_now p → HaltedAt p.boot p.script made
+claiming-halted p number span made c is = halted-at p number (Some c.claim) made c.at is
+
+-- the same behind the calls of a report, which needn't be recorded
+pub report-halted : (p : Processor) (number : ℕ) (span worked : Taken) (calls made : List ModuleCall) → Claiming p number span → Accepts p.boot.hosts span worked calls → made ≡ calls_by_now p ++ calls → HaltedAt p.boot p.script made
+report-halted p number span worked calls made c accepts is =
+    let before = calls_of p.boot p.memory.entries in
+    let cleared = cleared_by p.boot p.memory.entries c.claim calls in
+    let s = report_made p.boot c.claim calls cleared in
+    let H : Boot → Type 0 = λ b. AcceptsUnits b (calls_of b p.memory.entries) c.claim.run calls in
+    let X : Boot → Type 0 = λ b. Accepts b.hosts span worked calls in
+    let accepted : AcceptsUnits p.boot before c.claim.run calls = subst H c.same (span-accepts p.memory.boot (calls_of p.memory.boot p.memory.entries) c.claim.run span worked calls c.out.has (subst X (sym c.same) accepts)) in
+    let at = at-report p.boot p.script p.entries p.memory.entries number c.start c.len c.claim calls cleared c.at c.command c.fine accepted refl in
+    let entries = p.entries ++ made_entry p.boot p.entries number s ∷ [] in
+    let run_on : calls_of p.boot entries ≡ before ++ calls =
+    sym (ap (calls_of p.boot) at.there ∙ there-calls p.boot (p.script ∷ []) entries (running-placed p.boot (p.script ∷ []) entries (length entries) at.running))
+    ∙ calls_of-push p.boot p.memory.entries (bare_made p.boot p.entries number s) in
+    (entries, at.running.legal, is ∙ sym run_on)

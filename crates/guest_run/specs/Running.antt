@@ -17,7 +17,7 @@ abbrev pub IsMine : Boot → Moved → Type 0
 IsMine boot m = (m.entry.cpu.0 ≡ 0) × (m.entry.place ≡ place_of boot m.entry.event)
 
 -- a history of the processor's entries, whose greatest stamp this is
-pub record History (boot : Boot) (moved : List Moved) (clock : ℕ) : Type 0 where
+pub record OwnHistory (boot : Boot) (moved : List Moved) (clock : ℕ) : Type 0 where
   pub each : AllByRecursion (IsMine boot) moved
   pub stamps : AllByRecursion (λ (m : Moved). m.entry.stamp ≤ clock) moved
   pub greatest : greatest_stamp moved ≡ clock
@@ -29,7 +29,7 @@ entry_for clock number boot s = record { stamp = clock + 1; cpu = record { 0 = 0
 -- a legal history of the processor
 pub record Running (boot : Boot) (scripts : List (List Command)) (entries : List Entry) (clock : ℕ) : Type 0 where
   pub legal : Legal boot scripts entries
-  pub history : History boot (with_moved boot scripts entries) clock
+  pub history : OwnHistory boot (with_moved boot scripts entries) clock
 
 -- the bare entries of the memory in a history
 abbrev pub memory_of : Boot → List (List Command) → List Entry → List Entry
