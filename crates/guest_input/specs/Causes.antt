@@ -50,7 +50,8 @@ abbrev pub script_cause : Result (List Command) ScriptFault → Option Cause
 script_cause (Ok script) = if list_all is_runnable script then None else Some Later
 script_cause (Err fault) = Some (OfScript fault)
 
--- what is wrong with bytes that are within the file's limit, by themselves; nothing where they are good
+-- what is wrong with bytes that are within the file's limit, by themselves; nothing where they are
+-- good
 abbrev pub content_cause : InputFile → List ℕ → Option Cause
 content_cause Order bytes = order_cause bytes
 content_cause Map bytes = map_cause (map_of bytes)
@@ -59,7 +60,8 @@ content_cause Script bytes = script_cause (script_of bytes)
 
 -- why bytes are refused by themselves; None where they are good
 abbrev pub cause_of : InputFile → List ℕ → Option Cause
-cause_of file bytes = if nat_lt (limit_of file) (length bytes) then Some TooLong else content_cause file bytes
+cause_of file bytes =
+    if nat_lt (limit_of file) (length bytes) then Some TooLong else content_cause file bytes
 
 -- a table has to fit the map: the first unit that doesn't
 abbrev pub fit_cause : List Descriptor → Result Bits TableFault → Option Cause
@@ -81,19 +83,25 @@ held holds named Script = holds named.script
 abbrev pub IsMapOf : (List ℕ → Option (List ℕ)) → Named → GuestMap → Type 0
 IsMapOf holds named map = (bytes : List ℕ) → holds named.map ≡ Some bytes → map_of bytes ≡ Ok map
 
--- Wherever the file's contents are known, this is its cause (None where it is good). A table's is by a map, which is the map file's
--- wherever the contents of that are known.
+-- Wherever the file's contents are known, this is its cause (None where it is good). A table's is
+-- by a map, which is the map file's wherever the contents of that are known.
 abbrev pub HasCause : (List ℕ → Option (List ℕ)) → Named → InputFile → Option Cause → Type 0
 HasCause holds named Table cause =
-    (map : GuestMap) × IsMapOf holds named map × ((bytes : List ℕ) → held holds named Table ≡ Some bytes → cause_by map.descriptors bytes ≡ cause)
-HasCause holds named file cause = (bytes : List ℕ) → held holds named file ≡ Some bytes → cause_of file bytes ≡ cause
+    (map : GuestMap) × IsMapOf holds named map
+    × ((bytes : List ℕ) → held holds named Table ≡ Some bytes
+    → cause_by map.descriptors bytes ≡ cause)
+HasCause holds named file cause =
+    (bytes : List ℕ) → held holds named file ≡ Some bytes → cause_of file bytes ≡ cause
 
--- the file's contents are known, and this is its cause; of a table the map file's contents are known too
+-- the file's contents are known, and this is its cause; of a table the map file's contents are
+-- known too
 abbrev pub IsKnownCause : (List ℕ → Option (List ℕ)) → Named → InputFile → Option Cause → Type 0
 IsKnownCause holds named Table cause =
-    (map_bytes bytes : List ℕ) × (map : GuestMap) × (holds named.map ≡ Some map_bytes) × (map_of map_bytes ≡ Ok map)
+    (map_bytes bytes : List ℕ) × (map : GuestMap) × (holds named.map ≡ Some map_bytes)
+    × (map_of map_bytes ≡ Ok map)
     × (held holds named Table ≡ Some bytes) × (cause_by map.descriptors bytes ≡ cause)
-IsKnownCause holds named file cause = (bytes : List ℕ) × (held holds named file ≡ Some bytes) × (cause_of file bytes ≡ cause)
+IsKnownCause holds named file cause =
+    (bytes : List ℕ) × (held holds named file ≡ Some bytes) × (cause_of file bytes ≡ cause)
 
 -- the file is good, wherever its contents are known
 abbrev pub IsGood : (List ℕ → Option (List ℕ)) → Named → InputFile → Type 0
@@ -110,13 +118,17 @@ OfEachBefore P Map = P Order
 OfEachBefore P Table = P Order × P Map
 OfEachBefore P Script = P Order × P Map × P Table
 
--- this file, which is named, is refused for the cause, wherever its contents are known, and those before it are good so
-pub record IsRefused (holds : List ℕ → Option (List ℕ)) (named : Named) (file : InputFile) (cause : Cause) : Type 0 where
+-- this file, which is named, is refused for the cause, wherever its contents are known, and those
+-- before it are good so
+pub record IsRefused (holds : List ℕ → Option (List ℕ)) (named : Named) (file : InputFile)
+    (cause : Cause) : Type 0 where
   pub is_named : IsNamed named file
   pub own : HasCause holds named file (Some cause)
   pub before : OfEachBefore (IsGood holds named) file
 
--- the contents of this file and of those before it are known: this one is refused for the cause, and those before it are good
-pub record IsKnownRefused (holds : List ℕ → Option (List ℕ)) (named : Named) (file : InputFile) (cause : Cause) : Type 0 where
+-- the contents of this file and of those before it are known: this one is refused for the cause,
+-- and those before it are good
+pub record IsKnownRefused (holds : List ℕ → Option (List ℕ)) (named : Named) (file : InputFile)
+    (cause : Cause) : Type 0 where
   pub own : IsKnownCause holds named file (Some cause)
   pub before : OfEachBefore (IsKnownGood holds named) file

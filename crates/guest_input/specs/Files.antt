@@ -19,19 +19,23 @@ AreGood holds named = (file : InputFile) → IsGood holds named file
 abbrev pub AreKnownGood : (List ℕ → Option (List ℕ)) → Named → Type 0
 AreKnownGood holds named = (file : InputFile) → IsKnownGood holds named file
 
--- the table is that of the file of this name, wherever its contents are known; without a name there is none
+-- the table is that of the file of this name, wherever its contents are known; without a name there
+-- is none
 abbrev pub IsTableOf : (List ℕ → Option (List ℕ)) → Option (List ℕ) → Option Bits → Type 0
 IsTableOf holds None None = Unit {0}
-IsTableOf holds (Some name) (Some table) = (bytes : List ℕ) → holds name ≡ Some bytes → table_of bytes ≡ Ok table
+IsTableOf holds (Some name) (Some table) =
+    (bytes : List ℕ) → holds name ≡ Some bytes → table_of bytes ≡ Ok table
 IsTableOf holds None (Some table) = ⊥
 IsTableOf holds (Some name) None = ⊥
 
 -- the script is the script file's, wherever its contents are known
 abbrev pub IsScriptOf : (List ℕ → Option (List ℕ)) → Named → List Command → Type 0
-IsScriptOf holds named script = (bytes : List ℕ) → holds named.script ≡ Some bytes → script_of bytes ≡ Ok script
+IsScriptOf holds named script =
+    (bytes : List ℕ) → holds named.script ≡ Some bytes → script_of bytes ≡ Ok script
 
 -- what boot is given: the map and the table of the files; the table fits the map
-pub record IsGiven (holds : List ℕ → Option (List ℕ)) (named : Named) (map : GuestMap) (table : Option Bits) : Type 0 where
+pub record IsGiven (holds : List ℕ → Option (List ℕ)) (named : Named) (map : GuestMap)
+    (table : Option Bits) : Type 0 where
   pub map_is : IsMapOf holds named map
   pub table_is : IsTableOf holds named.table table
   pub fits : FitsGiven map.descriptors table

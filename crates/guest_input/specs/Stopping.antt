@@ -31,11 +31,14 @@ Finds file bytes stop = FindsBy file (content_cause file bytes) stop
 abbrev pub content_by : List Descriptor → List ℕ → Option Cause
 content_by map bytes = option_or (content_cause Table bytes) (fit_cause map (table_of bytes))
 
--- the file is refused for the cause, wherever its contents are known; or it couldn't be read; or memory ran out
+-- the file is refused for the cause, wherever its contents are known; or it couldn't be read; or
+-- memory ran out
 abbrev pub StopsBy : (List ℕ → Option Cause) → Reading → Named → InputFile → Stop → Type 0
 StopsBy causes files named file (Refused at cause) =
-    (at ≡ file) × ((bytes : List ℕ) → files.holds (name_of named file) ≡ Some bytes → causes bytes ≡ Some cause)
-StopsBy causes files named file (NotRead at) = (at ≡ file) × Rose files.faults_before files.faults_after
+    (at ≡ file)
+    × ((bytes : List ℕ) → files.holds (name_of named file) ≡ Some bytes → causes bytes ≡ Some cause)
+StopsBy causes files named file (NotRead at) =
+    (at ≡ file) × Rose files.faults_before files.faults_after
 StopsBy causes files named file Module = ⊥
 StopsBy causes files named file NoMemory = Unit {0}
 
@@ -51,14 +54,15 @@ abbrev pub AsksOne : List ℕ → Reading → Stop → Type 0
 AsksOne name files NoMemory = Asks (name ∷ []) files ⊎ Asks [] files
 AsksOne name files stop = Asks (name ∷ []) files
 
--- This file, which is named, is refused for the cause, wherever its contents are known; those before it are good; and exactly the
--- names up to it were asked for.
-pub record RefusesFile (files : Reading) (named : Named) (file : InputFile) (cause : Cause) : Type 0 where
+-- This file, which is named, is refused for the cause, wherever its contents are known; those
+-- before it are good; and exactly the names up to it were asked for.
+pub record RefusesFile (files : Reading) (named : Named) (file : InputFile)
+    (cause : Cause) : Type 0 where
   pub refused : IsRefused files.holds named file cause
   pub asked : Asks (names_to named file) files
 
--- The file, which is named, couldn't be read: it was asked for last, and the count of the files' faults rose. Those before it are good,
--- wherever their contents are known.
+-- The file, which is named, couldn't be read: it was asked for last, and the count of the files'
+-- faults rose. Those before it are good, wherever their contents are known.
 pub record IsNotRead (files : Reading) (named : Named) (file : InputFile) : Type 0 where
   pub is_named : IsNamed named file
   pub rose : Rose files.faults_before files.faults_after

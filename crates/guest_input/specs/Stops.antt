@@ -40,7 +40,8 @@ map_fault_text (fault.BadVersion version) = codes "version " ++ decimal version
 map_fault_text (fault.TooMany count) = codes "count " ++ decimal count
 map_fault_text (fault.Unaligned number) = codes "unaligned " ++ decimal number
 map_fault_text (fault.TooHigh number) = codes "high " ++ decimal number
-map_fault_text (fault.Overlap earlier number) = codes "overlap " ++ (decimal earlier ++ (codes " " ++ decimal number))
+map_fault_text (fault.Overlap earlier number) =
+    codes "overlap " ++ (decimal earlier ++ (codes " " ++ decimal number))
 map_fault_text fault.TooMuchRam = codes "ram"
 map_fault_text (fault.BadHost number) = codes "host " ++ decimal number
 map_fault_text (fault.Trailing place) = codes "trailing " ++ decimal place
@@ -66,7 +67,8 @@ why_text why.NotUtf8 = codes "utf8"
 
 -- what is wrong with a script file
 abbrev pub script_fault_text : ScriptFault → List ℕ
-script_fault_text (script.Line number w) = codes "line " ++ (decimal number ++ (codes " " ++ why_text w))
+script_fault_text (script.Line number w) =
+    codes "line " ++ (decimal number ++ (codes " " ++ why_text w))
 script_fault_text script.TooManyLines = codes "too many lines"
 script_fault_text script.TooManyBytes = codes "too many bytes"
 script_fault_text script.NoMemory = codes "memory"

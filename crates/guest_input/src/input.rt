@@ -280,11 +280,7 @@ fn read_commands<F: Files>(alloc: Global, files: &mut F, names: &Names<'_>) -> R
 /// Reads each file: the order, the map, the table where one is named, and the script. Each is checked before the next is read.
 ///
 /// A stop is `Refused` or `NotRead`, with the file, or `NoMemory`; no file after the one that it names is asked for.
-pub fn read_input<F: Files>(
-    alloc: Global,
-    files: &mut F,
-    names: &Names<'_>,
-) -> Result<Input, Stop>
+pub fn read_input<F: Files>(alloc: Global, files: &mut F, names: &Names<'_>) -> Result<Input, Stop>
     ensures good { OnOk result (AreGood (F.holds files.old) (seen names.now)) }
     ensures given { IfOk result (λ input.
         IsGiven (F.holds files.old) (seen names.now) input.map input.table) }

@@ -199,8 +199,8 @@ keeps_from made faults never before between after r kept keeps = record {
   full = keeps.full;
   calls = keeps.calls;
   «module» = λ cpu old new at_old at_new some. (
-    let mid = each_at faults never before between cpu old kept.each at_old in
-    rose_from (faults old) (faults mid.0) (faults new) mid.2.faults (keeps.«module» cpu mid.0 new mid.1 at_new some));
+      let mid = each_at faults never before between cpu old kept.each at_old in
+      rose_from (faults old) (faults mid.0) (faults new) mid.2.faults (keeps.«module» cpu mid.0 new mid.1 at_new some));
 }
 
 pub keeps_from_of : {P E : Type 0} (made : P → List ModuleCall) (faults : P → ℕ) (never : P → Type 0) (before between after : List P) (result : Result (Recorded × List PageRun) E) → PortsKept (asking made faults never before between) → IfOk result (λ r. KeepsRun (asking made faults never between after) r.0) → IfOk result (λ r. KeepsRun (asking made faults never before after) r.0)

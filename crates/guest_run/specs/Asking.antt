@@ -14,7 +14,8 @@ pub record Asking (P : Type 0) : Type 1 where
   pub after : List P
 
 -- the ports that were `old` and are `new`, by a port's ghost members
-abbrev pub asking : {P : Type 0} → (P → List ModuleCall) → (P → ℕ) → (P → Type 0) → List P → List P → Asking P
+abbrev pub asking : {P : Type 0} → (P → List ModuleCall) → (P → ℕ) → (P → Type 0) → List P → List P
+    → Asking P
 asking made faults never_fails old new = record {
   made = made;
   faults = faults;
@@ -46,7 +47,8 @@ abbrev pub Unasked : {P : Type 0} → Asking P → Type 0
 Unasked ports = ports.after ≡ ports.before
 
 -- a port's count of faults isn't lower, and if it never failed it never fails
-pub record PortKept {P : Type 0} (count_of : P → ℕ) (NeverFails : P → Type 0) (old new : P) : Type 0 where
+pub record PortKept {P : Type 0} (count_of : P → ℕ) (NeverFails : P → Type 0)
+    (old new : P) : Type 0 where
   pub faults : count_of old ≤ count_of new
   pub never_fails : NeverFails old → NeverFails new
 
@@ -66,11 +68,14 @@ pub record PortsKept {P : Type 0} (ports : Asking P) : Type 0 where
 
 -- each port has made the calls of its processor, and no others
 abbrev pub PortsMade : {P : Type 0} → Asking P → Recorded → Type 0
-PortsMade {P} ports r = (cpu : ℕ) (port : P) → slice_get ports.after cpu ≡ Some port → ports.made port ≡ port_calls r cpu
+PortsMade {P} ports r =
+    (cpu : ℕ) (port : P) → slice_get ports.after cpu ≡ Some port
+    → ports.made port ≡ port_calls r cpu
 
 -- a command of a processor was answered that the module failed only where the count of faults of
 -- this processor's port rose
 abbrev pub ModuleFailed : {P : Type 0} → Asking P → Recorded → Type 0
 ModuleFailed {P} ports r =
-    (cpu : ℕ) (old new : P) → slice_get ports.before cpu ≡ Some old → slice_get ports.after cpu ≡ Some new
+    (cpu : ℕ) (old new : P) → slice_get ports.before cpu ≡ Some old
+    → slice_get ports.after cpu ≡ Some new
     → some_module (entries_by cpu r.entries) ≡ true → Rose (ports.faults old) (ports.faults new)

@@ -29,8 +29,8 @@ pub record Outside (P : Type 0) : Type 1 where
 abbrev pub outside : {P : Type 0} → Reading → Putting → Asking P → Outside P
 outside files out ports = record { files = files; out = out; ports = ports }
 
--- Ends with a recorded run: its text is put (0), or a prefix of it, where the sink's count of faults
--- rose (5) or memory ran out (6).
+-- Ends with a recorded run: its text is put (0), or a prefix of it, where the sink's count of
+-- faults rose (5) or memory ran out (6).
 abbrev pub RunEnds : Putting → Recorded → Ended → Type 0
 RunEnds out r ended =
     (ended.run ≡ Some r)
@@ -42,12 +42,16 @@ RunEnds out r ended =
 pub data Ending {P : Type 0} (o : Outside P) (arguments : Option Named) (ended : Ended) : Type 0 where
   -- the arguments don't match the usage line: its line with 2, cut with 5, or nothing with 6; no
   -- name is asked for, and no port is asked
-  Unmatched : arguments ≡ None → Asks [] o.files → Unasked o.ports → EndsWith o.out words_line 2 ended → Ending o arguments ended
-  -- the run stopped before its text, with a cause: the cause's line with 3 (a file is refused), 4 (a
-  -- file couldn't be read) or 7 (boot stopped), cut with 5, or nothing with 6
-  Stops : (named : Named) (stop : Stop) → arguments ≡ Some named → Stopped o.files o.ports named stop → StopEnds o.out named stop ended → Ending o arguments ended
+  Unmatched : arguments ≡ None → Asks [] o.files → Unasked o.ports
+      → EndsWith o.out words_line 2 ended → Ending o arguments ended
+  -- the run stopped before its text, with a cause: the cause's line with 3 (a file is refused), 4
+  -- (a file couldn't be read) or 7 (boot stopped), cut with 5, or nothing with 6
+  Stops : (named : Named) (stop : Stop) → arguments ≡ Some named
+      → Stopped o.files o.ports named stop → StopEnds o.out named stop ended
+      → Ending o arguments ended
   -- a run is recorded, all files being read and good: its text with 0, cut with 5 or 6
-  Runs : (named : Named) (r : Recorded) → arguments ≡ Some named → AreGood o.files.holds named → Asks (names_to named Script) o.files → RunEnds o.out r ended → Ending o arguments ended
+  Runs : (named : Named) (r : Recorded) → arguments ≡ Some named → AreGood o.files.holds named
+      → Asks (names_to named Script) o.files → RunEnds o.out r ended → Ending o arguments ended
 
 -- The line says that a file, which isn't read after this one, couldn't be read, and so it is.
 abbrev pub SaysNotReadUpTo : InputFile → Reading → Putting → Named → Type 0
@@ -59,7 +63,8 @@ SaysNotReadUpTo last files out named =
 -- this file or one before it couldn't be read; or it is 5 or 6.
 abbrev pub RefusesFirst : {P : Type 0} → Outside P → Option Named → ℕ → Type 0
 RefusesFirst o arguments status =
-    (named : Named) (file : InputFile) (cause : Cause) → arguments ≡ Some named → IsKnownRefused o.files.holds named file cause
+    (named : Named) (file : InputFile) (cause : Cause) → arguments ≡ Some named
+    → IsKnownRefused o.files.holds named file cause
     → ((status ≡ 3) × Put o.out (refused_line (name_of named file) cause))
     ⊎ ((status ≡ 4) × SaysNotReadUpTo file o.files o.out named)
     ⊎ (status ≡ 5) ⊎ (status ≡ 6)
@@ -69,11 +74,13 @@ RefusesFirst o arguments status =
 abbrev pub Completes : {P : Type 0} → Outside P → Option Named → ℕ → Type 0
 Completes o arguments status =
     (named : Named) → arguments ≡ Some named → AreKnownGood o.files.holds named
-    → (Rose o.files.faults_before o.files.faults_after → ⊥) → (Rose o.out.faults_before o.out.faults_after → ⊥)
+    → (Rose o.files.faults_before o.files.faults_after → ⊥)
+    → (Rose o.out.faults_before o.out.faults_after → ⊥)
     → (status ≡ 0) ⊎ (status ≡ 6) ⊎ (status ≡ 7)
 
 -- How the program ends, whatever the status.
-pub record Ends {P : Type 0} (o : Outside P) (arguments : Option Named) (ended : Ended) : Type 0 where
+pub record Ends {P : Type 0} (o : Outside P) (arguments : Option Named)
+    (ended : Ended) : Type 0 where
   -- each status has its cause, and what was put
   pub ending : Ending o arguments ended
   -- a file that is known to be the first that is refused is refused

@@ -28,7 +28,8 @@ use Rattle.guest_run.specs.Asking.{Asking, PortsMade, ModuleFailed}
 
 -- the scripts are the one script that the bytes hold
 abbrev pub ScriptedBy : List ℕ → Recorded → Type 0
-ScriptedBy bytes r = (script : List Command) × (script_of bytes ≡ Ok script) × (r.scripts ≡ script ∷ [])
+ScriptedBy bytes r =
+    (script : List Command) × (script_of bytes ≡ Ok script) × (r.scripts ≡ script ∷ [])
 
 -- The run is of the files that are named, wherever their contents are known: the order file is
 -- empty, boot is that of the map and of the table, with no pool, the areas of the arguments and one
@@ -65,7 +66,8 @@ pub record KeepsRun {P : Type 0} (ports : Asking P) (r : Recorded) : Type 0 wher
   pub bytes : BytesTold r.boot r.scripts r.entries
   -- a mapping is full only where nothing fits
   pub full : FullOnlyWhereFull r.boot r.scripts r.entries
-  -- each port was asked exactly for the calls of its processor's entries, the first for boot's first
+  -- each port was asked exactly for the calls of its processor's entries, the first for boot's
+  -- first
   pub calls : PortsMade ports r
   -- a command was answered `module` only where its processor's port failed
   pub «module» : ModuleFailed ports r
@@ -78,7 +80,8 @@ BootOfOne boot =
 
 -- these calls are those of a legal history of the script, which needn't be whole
 abbrev pub HaltedAt : Boot → List Command → List ModuleCall → Type 0
-HaltedAt boot script made = (entries : List Entry) × Legal boot (script ∷ []) entries × (made ≡ calls_of boot entries)
+HaltedAt boot script made =
+    (entries : List Entry) × Legal boot (script ∷ []) entries × (made ≡ calls_of boot entries)
 
 -- the ports' calls are those of a run with a legal history, which needn't be whole
 pub record Halted {P : Type 0} (ports : Asking P) (r : Recorded) : Type 0 where
@@ -86,7 +89,8 @@ pub record Halted {P : Type 0} (ports : Asking P) (r : Recorded) : Type 0 where
   pub calls : PortsMade ports r
 
 -- such a run of this boot and this script
-pub record RunHalts {P : Type 0} (ports : Asking P) (boot : Boot) (script : List Command) : Type 0 where
+pub record RunHalts {P : Type 0} (ports : Asking P) (boot : Boot)
+    (script : List Command) : Type 0 where
   pub run : Recorded
   pub boot_is : run.boot ≡ boot
   pub scripts : run.scripts ≡ script ∷ []

@@ -24,10 +24,12 @@ pub record OwnHistory (boot : Boot) (moved : List Moved) (clock : ℕ) : Type 0 
 
 -- the entry that a step makes
 abbrev pub entry_for : ℕ → ℕ → Boot → Step → Entry
-entry_for clock number boot s = record { stamp = clock + 1; cpu = record { 0 = 0 }; cmd = number; place = place_of boot s.event; event = s.event; reply = s.reply }
+entry_for clock number boot s =
+    record { stamp = clock + 1; cpu = record { 0 = 0 }; cmd = number; place = place_of boot s.event; event = s.event; reply = s.reply }
 
 -- a legal history of the processor
-pub record Running (boot : Boot) (scripts : List (List Command)) (entries : List Entry) (clock : ℕ) : Type 0 where
+pub record Running (boot : Boot) (scripts : List (List Command)) (entries : List Entry)
+    (clock : ℕ) : Type 0 where
   pub legal : Legal boot scripts entries
   pub history : OwnHistory boot (with_moved boot scripts entries) clock
 
@@ -35,9 +37,10 @@ pub record Running (boot : Boot) (scripts : List (List Command)) (entries : List
 abbrev pub memory_of : Boot → List (List Command) → List Entry → List Entry
 memory_of boot scripts entries = entries_of (at_place Memory (with_moved boot scripts entries))
 
--- A run of one processor between two of its events: its history, the memory's entries in it, the number of its present command, and
--- its open claim.
-pub record At (boot : Boot) (script : List Command) (entries memory : List Entry) (number : ℕ) (claim : Option Claimed) : Type 0 where
+-- A run of one processor between two of its events: its history, the memory's entries in it, the
+-- number of its present command, and its open claim.
+pub record At (boot : Boot) (script : List Command) (entries memory : List Entry) (number : ℕ)
+    (claim : Option Claimed) : Type 0 where
   pub running : Running boot (script ∷ []) entries (length entries)
   pub present : replied (with_moved boot (script ∷ []) entries) ≡ number
   pub there : memory ≡ memory_of boot (script ∷ []) entries

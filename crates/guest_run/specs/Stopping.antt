@@ -20,8 +20,10 @@ use Rattle.guest_run.specs.Boots.{BootStops, EndsWithoutMemory}
 abbrev pub Stopped : {P : Type 0} → Reading → Asking P → Named → Stop → Type 0
 Stopped files ports named (Refused file cause) = RefusesFile files named file cause × Unasked ports
 Stopped files ports named (NotRead file) = IsNotRead files named file × Unasked ports
-Stopped files ports named Module = BootStops files.holds ports named × Asks (names_to named Script) files
-Stopped files ports named NoMemory = AsksFront (names_to named Script) files × EndsWithoutMemory files.holds ports named
+Stopped files ports named Module =
+    BootStops files.holds ports named × Asks (names_to named Script) files
+Stopped files ports named NoMemory =
+    AsksFront (names_to named Script) files × EndsWithoutMemory files.holds ports named
 
 -- no run is recorded, and the status is this one
 abbrev pub EndsAt : ℕ → Ended → Type 0

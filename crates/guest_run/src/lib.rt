@@ -13,6 +13,4 @@ pub use one::turns;
 pub use program::{Ended, plain, top};
 
 #[cfg(test)]
-mod guest_tests;
-#[cfg(test)]
 mod tests;

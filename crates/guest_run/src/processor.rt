@@ -52,14 +52,14 @@ impl Processor {
         reply: Option<Reply>,
     ) -> Result<(), AllocError>
         ensures { OnOk result (self.new ≡ record self.old {
-            entries = self.old.entries ++ record {
-                stamp = stamp;
-                cpu = record { 0 = 0 };
-                cmd = number;
-                place = place;
-                event = event;
-                reply = reply;
-            } ∷ [];
+          entries = self.old.entries ++ record {
+            stamp = stamp;
+            cpu = record { 0 = 0 };
+            cmd = number;
+            place = place;
+            event = event;
+            reply = reply;
+          } ∷ [];
         }) }
     {
         let entry = Entry {

@@ -98,8 +98,8 @@ fn run_named<F: Files, K: Sink, P: Port>(
         (asking P.made P.faults P.never_fails ports.old.items ports.new.items) r) }
     ensures ends { Ends
         (outside (reading F.holds F.asked F.faults files.old files.new)
-            (putting K.written K.faults out.old out.new)
-            (asking P.made P.faults P.never_fails ports.old.items ports.new.items))
+        (putting K.written K.faults out.old out.new)
+        (asking P.made P.faults P.never_fails ports.old.items ports.new.items))
         (Some (seen names.now)) result }
 {
     match run(alloc, names, files, ports) {
@@ -133,8 +133,8 @@ pub fn plain<F: Files, K: Sink, P: Port>(
         (asking P.made P.faults P.never_fails ports.old.items ports.new.items) r) }
     ensures ends { Ends
         (outside (reading F.holds F.asked F.faults files.old files.new)
-            (putting K.written K.faults out.old out.new)
-            (asking P.made P.faults P.never_fails ports.old.items ports.new.items))
+        (putting K.written K.faults out.old out.new)
+        (asking P.made P.faults P.never_fails ports.old.items ports.new.items))
         (named_by (bytes_of_words words.now)) result }
 {
     match read_words(words) {
@@ -159,8 +159,8 @@ pub fn top<F: Files, K: Sink, P: Port>(
         (asking P.made P.faults P.never_fails ports.old.items ports.new.items) r) }
     ensures ends { Ends
         (outside (reading F.holds F.asked F.faults files.old files.new)
-            (putting K.written K.faults out.old out.new)
-            (asking P.made P.faults P.never_fails ports.old.items ports.new.items))
+        (putting K.written K.faults out.old out.new)
+        (asking P.made P.faults P.never_fails ports.old.items ports.new.items))
         (named_by (bytes_of_words words.now)) result }
 {
     plain(alloc, words, files, out, ports)

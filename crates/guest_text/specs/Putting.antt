@@ -1,7 +1,8 @@
 use Rattle.std.specs.Prelude.{ℕ, List, Option, ◌≡◌}
 use Rattle.guest_io.specs.Writing.{appended, AppendsPrefix}
 
--- A sink before and after: what was written, wherever that is known, and the count of its faults (own rule).
+-- A sink before and after: what was written, wherever that is known, and the count of its faults
+-- (own rule).
 pub record Putting : Type 0 where
   pub before : Option (List ℕ)
   pub after : Option (List ℕ)

@@ -107,7 +107,8 @@ fn put_processors<K: Sink>(
         (processors_text 0 (map (replies_of_cpu entries.now) (numbers_from 0 cpus)))) }
     ensures failed { IsErrOf result PutFault.Failed → Rose (K.faults out.old) (K.faults out.new) }
     ensures cut { OnErr result (AppendsPrefix (K.written out.old)
-        (processors_text 0 (map (replies_of_cpu entries.now) (numbers_from 0 cpus))) (K.written out.new)) }
+        (processors_text 0 (map (replies_of_cpu entries.now) (numbers_from 0 cpus)))
+        (K.written out.new)) }
     ensures faults_kept { K.faults out.old ≤ K.faults out.new }
 {
     for cpu in 0..cpus {
@@ -130,7 +131,8 @@ fn put_text<K: Sink>(
         (run_text (map (replies_of_cpu entries.now) (numbers_from 0 cpus)) runs.now None)) }
     ensures failed { IsErrOf result PutFault.Failed → Rose (K.faults out.old) (K.faults out.new) }
     ensures cut { OnErr result (AppendsPrefix (K.written out.old)
-        (run_text (map (replies_of_cpu entries.now) (numbers_from 0 cpus)) runs.now None) (K.written out.new)) }
+        (run_text (map (replies_of_cpu entries.now) (numbers_from 0 cpus)) runs.now None)
+        (K.written out.new)) }
     ensures faults_kept { K.faults out.old ≤ K.faults out.new }
 {
     put_processors(alloc, out, cpus, entries)?;
@@ -149,9 +151,11 @@ pub fn put_run<K: Sink>(
     runs: &Runs,
 ) -> Result<(), PutFault>
     requires final_runs { FinalRuns recorded.now runs.now }
-    ensures printed { OnOk result (PrintedAfter recorded.now (putting K.written K.faults out.old out.new)) }
+    ensures printed { OnOk result
+        (PrintedAfter recorded.now (putting K.written K.faults out.old out.new)) }
     ensures failed { IsErrOf result PutFault.Failed → Rose (K.faults out.old) (K.faults out.new) }
-    ensures cut { OnErr result (CutAfter recorded.now (putting K.written K.faults out.old out.new)) }
+    ensures cut { OnErr result
+        (CutAfter recorded.now (putting K.written K.faults out.old out.new)) }
     ensures faults_kept { K.faults out.old ≤ K.faults out.new }
 {
     put_text(
