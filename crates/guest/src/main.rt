@@ -11,7 +11,7 @@ use std::alloc::{AllocError, Global};
 use std::process::ExitCode;
 use std::{env, io};
 
-/// The status for want of memory.
+/// The status where memory runs out.
 const NO_MEMORY: u8 = 6;
 
 /// The words after the program's name. Where one isn't text there are none, and no grammar has no words.
