@@ -1,5 +1,5 @@
 //! Why a run ends before its text.
-ghost use Rattle.std.specs.Prelude.{◌≡◌, ◌≢◌, ◌++◌, codes, string_bytes, IfOk};
+ghost use Rattle.std.specs.Prelude.{◌≡◌, ◌≢◌, string_bytes, IfOk};
 ghost use Rattle.guest_input.specs.declared.stop.Stop.TheVariants.{NoMemory};
 ghost use Rattle.guest_input.specs.Stops.{name_of, map_fault_text, table_fault_text, script_fault_text, why_text, cause_text, refused_line, not_read_line, status_of, stop_line};
 ghost use Rattle.guest_input.specs.Causes.{limit_of};

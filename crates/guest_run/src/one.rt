@@ -1,5 +1,5 @@
 //! A run on one thread.
-ghost use Rattle.std.specs.Prelude.{◌≡◌, ℕ, List, Option, [], ◌∷◌, ◌≤◌, length, All, IfOk, OnErr};
+ghost use Rattle.std.specs.Prelude.{◌≡◌, [], ◌∷◌, ◌≤◌, length, All, IfOk, OnErr};
 ghost use Rattle.event_core.specs.Calls.{calls_of};
 ghost use Rattle.event_core.specs.MemoryRows.{page_state};
 ghost use Rattle.event_core.specs.RangedScripts.{IsRanged};

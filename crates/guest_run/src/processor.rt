@@ -1,5 +1,5 @@
 //! The one processor of a run.
-ghost use Rattle.std.specs.Prelude.{◌≡◌, ℕ, List, [], ◌∷◌, ◌++◌, ◌+◌, ◌^◌, ◌<◌, ◌≤◌, None, Some, false, length, All, slice_get, IfOk, IfSome, OnOk, OnErr};
+ghost use Rattle.std.specs.Prelude.{◌≡◌, ℕ, [], ◌∷◌, ◌++◌, ◌+◌, ◌^◌, ◌<◌, ◌≤◌, None, Some, false, length, All, slice_get, IfOk, IfSome, OnOk, OnErr};
 ghost use Rattle.event_core.specs.declared.command.Command.TheVariants.{Accept, Query};
 ghost use Rattle.event_core.specs.declared.command.Command.{Command as CommandValue};
 ghost use Rattle.event_core.specs.Holdings.{Own};

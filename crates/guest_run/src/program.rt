@@ -1,6 +1,5 @@
 //! The program, from its arguments to its status.
-ghost use Rattle.std.specs.Prelude.{◌≡◌, ◌<◌, ◌≤◌, [], None, Some, length, string_bytes, All, IfSome, OnOk, OnErr, IsErrOf};
-ghost use Rattle.guest_base.specs.Counts.{Rose};
+ghost use Rattle.std.specs.Prelude.{◌≡◌, ◌<◌, ◌≤◌, [], None, Some, length, All, IfSome, OnOk, IsErrOf};
 ghost use Rattle.guest_base.specs.declared.limits.TheConstants.{MAX_CPUS};
 ghost use Rattle.guest_input.specs.Reading.{reading};
 ghost use Rattle.guest_text.specs.Printings.{FinalRuns};

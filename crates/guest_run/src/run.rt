@@ -1,6 +1,5 @@
 //! A run, from its files to its history.
-ghost use Rattle.std.specs.Prelude.{◌≡◌, ◌∷◌, ◌++◌, ◌<◌, ◌≤◌, ℕ, List, Option, [], Some, Ok, true, length, All, IfOk, IfErr, OnOk, OnErr};
-ghost use Rattle.std.specs.List.{list_all};
+ghost use Rattle.std.specs.Prelude.{◌≡◌, ◌∷◌, ◌++◌, ◌<◌, ◌≤◌, Option, [], Ok, length, All, IfOk, IfErr, OnOk, OnErr};
 ghost use Rattle.event_core.specs.Boot.{BootRight};
 ghost use Rattle.event_core.specs.Given.{FitsGiven};
 ghost use Rattle.event_core.specs.Map.{MapRules};
@@ -9,13 +8,12 @@ ghost use Rattle.guest_boot.specs.Worlds.{WorldStands};
 ghost use Rattle.guest_input.specs.Asked.{names_to};
 ghost use Rattle.guest_input.specs.Files.{AreGood};
 ghost use Rattle.guest_input.specs.Reading.{reading};
-ghost use Rattle.guest_input.specs.Runnable.{is_runnable};
 ghost use Rattle.guest_input.specs.declared.stop.InputFile.TheVariants.{Script as ScriptFile};
 ghost use Rattle.guest_text.specs.Printings.{FinalRuns};
 ghost use Rattle.guest_words.specs.Views.{seen};
 ghost use Rattle.guest_run.specs.Asking.{asking, first_made, OthersUnmade, PortsKept};
 ghost use Rattle.guest_run.specs.Boots.{BootEnds, RunEndsEarly};
-ghost use Rattle.guest_run.specs.Recordings.{BootedBy, BootOfOne, Halted, KeepsRun, RunHalts};
+ghost use Rattle.guest_run.specs.Recordings.{BootedBy, BootOfOne, KeepsRun, RunHalts};
 ghost use Rattle.guest_run.specs.Stopping.{Stopped};
 
 use crate::one::turns;
