@@ -1,5 +1,5 @@
 use Rattle.std.specs.Prelude.{ℕ, List, ◌≡◌, ◌⊎◌, ◌^◌, ◌<◌, ◌≤◌, length, sum_by, All}
-use Rattle.guest_base.specs.declared.limits.TheConstants.{MAX_COMMANDS, MAX_NAMED_BYTES, MAX_MAPPING_BYTES, MAX_ORDER}
+use Rattle.guest_base.specs.declared.limits.TheConstants.{MAX_COMMANDS, MAX_NAMED_BYTES, MAX_ORDER}
 use Rattle.event_core.specs.declared.command.Command.{Command}
 use Rattle.event_core.specs.declared.command.Command.TheVariants.{Alloc, Free, Accept, Query, Read, Write, Fill, Load, Share, Private, Giveback, Map, SyncDev, SyncCpu, Unmap, DRead, DWrite, HostRead, HostWrite}
 use Rattle.event_core.specs.Name.{IsName}

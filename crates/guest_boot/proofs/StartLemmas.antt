@@ -1,8 +1,7 @@
-use Rattle.std.proofs.Common.{◌≡◌, ℕ, suc, get_or, ◌+◌, ◌*◌, ◌/◌, ◌%◌, ◌^◌, ◌<◌, ◌≤◌, Bool, true, false, ◌&&◌, Option, None, Some, List, [], ◌∷◌, refl, sym, ◌∙◌, ap, subst, inl, inr, arith, cond, length, map}
-use Rattle.std.specs.Prelude.{All, AllPairs, nat_lt, find, slice_index, ◌==◌}
+use Rattle.std.proofs.Common.{◌≡◌, ℕ, suc, get_or, ◌+◌, ◌*◌, ◌/◌, ◌%◌, ◌^◌, ◌<◌, ◌≤◌, Bool, true, false, ◌&&◌, Option, None, Some, List, [], ◌∷◌, refl, sym, ◌∙◌, ap, subst, inl, inr, arith, length, map}
+use Rattle.std.specs.Prelude.{All, AllPairs, nat_lt, slice_index, ◌==◌}
 use Rattle.std.specs.Int.{bit_at}
 use Rattle.std.specs.List.{AllByRecursion, flat_map}
-use Rattle.std.specs.Option.{option_map}
 use Rattle.std.proofs.lemmas.Bool.{cases_Bool}
 use Rattle.std.proofs.lemmas.List.Elements.{recursion_from_All}
 use Rattle.guest_base.specs.Ranges.{in_range}
@@ -10,7 +9,6 @@ use Rattle.guest_base.specs.Search.{any_such}
 use Rattle.guest_base.proofs.SearchLemmas.{any_such_is, any_such_none}
 use Rattle.guest_base.specs.declared.memory.Pages.{Pages}
 use Rattle.guest_base.specs.declared.memory.PageRun.{PageRun}
-use Rattle.guest_base.specs.declared.memory.PageState.{PageState}
 use Rattle.guest_base.specs.declared.memory.HostRun.{HostRun}
 use Rattle.event_core.specs.declared.boot.Descriptor.{Descriptor}
 use Rattle.event_core.specs.declared.boot.Boot.{Boot}
@@ -18,7 +16,7 @@ use Rattle.event_core.specs.Cut.{cut, blocks_of, ram_ranges, without_pool}
 use Rattle.event_core.specs.Map.{MapRules}
 use Rattle.event_core.specs.Given.{first_by, unit_by, base_by, length_by, bit_by}
 use Rattle.event_core.specs.MemoryRows.{is_pending}
-use Rattle.event_core.specs.Runs.{AreMaximalRuns, GoesBefore, run_holds, run_end, state_in as first_state_of}
+use Rattle.event_core.specs.Runs.{AreMaximalRuns, GoesBefore, run_end}
 use Rattle.event_core.specs.Stub.{default_unit, unaccepted, round_down, least_start, stub_base}
 use Rattle.event_core.specs.Units.{bit_of, bit_after, unit_count, unit_first, unit_pages}
 use Rattle.event_core.proofs.MapLemmas.{pending_first}

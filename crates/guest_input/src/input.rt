@@ -19,10 +19,10 @@ ghost use Rattle.guest_input.specs.Stops.{name_of, IsNamed};
 
 use crate::stop::{Cause, InputFile, Stop, name_in};
 use efi_map::{MapFault, read_map};
-use guest_map::GuestMap;
 use event_core::{Command, Script};
 use guest_base::Bytes;
 use guest_io::{Files, ReadFault};
+use guest_map::GuestMap;
 use guest_script::{ScriptFault, read_script};
 use guest_words::Names;
 use std::alloc::Global;

@@ -1,4 +1,4 @@
-use Rattle.std.specs.Prelude.{ℕ, List, None, Some, true, ◌≡◌, ◌≢◌, ◌%◌, ◌^◌, ◌≤◌, ◌<◌}
+use Rattle.std.specs.Prelude.{ℕ, List, None, Some, true, ◌≡◌, ◌≢◌, ◌%◌, ◌≤◌, ◌<◌}
 use Rattle.guest_base.specs.declared.limits.TheConstants.{PAGE_END, MAX_CPUS}
 use Rattle.guest_base.specs.Ranges.{in_range}
 use Rattle.guest_base.specs.declared.memory.PageState.TheVariants.{Pending}
