@@ -20,14 +20,16 @@ use Rattle.guest_run.specs.Recordings.{BootedBy, Halted}
 pub record BootFailed {P : Type 0} (ports : Asking P) (map : GuestMap) (table : Option Bits)
     (areas : ℕ) : Type 0 where
   pub page : Page
-  pub stopped : BootStopped map.descriptors map.hosts table 0 areas 1 (first_made ports.made ports.after) page
+  pub stopped
+      : BootStopped map.descriptors map.hosts table 0 areas 1 (first_made ports.made ports.after) page
   pub rose : Rose (first_faults ports.faults ports.before) (first_faults ports.faults ports.after)
   pub others : OthersUnmade ports.made ports.after
 
 -- the first port's calls are the first ones of that boot, and no other port was asked
 pub record BootCut {P : Type 0} (ports : Asking P) (map : GuestMap) (table : Option Bits)
     (areas : ℕ) : Type 0 where
-  pub front : BootFront map.descriptors map.hosts table 0 areas 1 (first_made ports.made ports.after)
+  pub front
+      : BootFront map.descriptors map.hosts table 0 areas 1 (first_made ports.made ports.after)
   pub others : OthersUnmade ports.made ports.after
 
 -- that boot came to its end, and the ports' calls are those of a legal history of the script

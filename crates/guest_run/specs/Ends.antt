@@ -39,7 +39,8 @@ RunEnds out r ended =
     ⊎ ((ended.status ≡ 6) × CutAfter r out))
 
 -- The program ends in one of three ways.
-pub data Ending {P : Type 0} (o : Outside P) (arguments : Option Named) (ended : Ended) : Type 0 where
+pub data Ending {P : Type 0} (o : Outside P) (arguments : Option Named)
+    (ended : Ended) : Type 0 where
   -- the arguments don't match the usage line: its line with 2, cut with 5, or nothing with 6; no
   -- name is asked for, and no port is asked
   Unmatched : arguments ≡ None → Asks [] o.files → Unasked o.ports
