@@ -17,11 +17,11 @@ ghost use Rattle.guest_run.specs.Recordings.{BootedBy, BootOfOne, KeepsRun, RunH
 ghost use Rattle.guest_run.specs.Stopping.{Stopped};
 
 use crate::one::turns;
-use guest_map::GuestMap;
 use event_core::{Recorded, Runs, Script};
 use guest_boot::{BootFault, World, boot};
 use guest_input::{Input, Stop, read_input};
 use guest_io::Files;
+use guest_map::GuestMap;
 use guest_words::Names;
 use page_module::Port;
 use std::alloc::{AllocError, Global};
