@@ -1,5 +1,5 @@
 use Rattle.std.specs.Prelude.{ℕ, List, ◌≡◌, ◌⊎◌, ◌^◌, ◌<◌, ◌≤◌, length, sum_by, All}
-use Rattle.guest_base.specs.declared.limits.TheConstants.{MAX_COMMANDS, MAX_NAMED_BYTES, MAX_ORDER}
+use Rattle.guest_base.specs.declared.limits.TheConstants.{MAX_COMMANDS, MAX_NAMED_BYTES, MAX_HEX_BYTES, MAX_ORDER}
 use Rattle.event_core.specs.declared.command.Command.{Command}
 use Rattle.event_core.specs.declared.command.Command.TheVariants.{Alloc, Free, Accept, Query, Read, Write, Fill, Load, Share, Private, Giveback, Map, SyncDev, SyncCpu, Unmap, DRead, DWrite, HostRead, HostWrite}
 use Rattle.event_core.specs.Name.{IsName}
@@ -13,7 +13,7 @@ IsNumber n = n < 2 ^ 64
 -- bytes that are written out are 1 to 262,144
 pub record IsHex (hex : List ℕ) : Type 0 where
   pub some : 1 ≤ length hex
-  pub few : length hex ≤ 262144
+  pub few : length hex ≤ MAX_HEX_BYTES
   pub each : All (λ b. b < 256) hex
 
 -- a mask keeps no bit of an address, or those below a page

@@ -13,8 +13,8 @@ use Rattle.std.proofs.lemmas.List.Quantifiers.{all_pairs_push}
 use Rattle.std.proofs.lemmas.List.Folds.{find-append}
 use Rattle.guest_base.specs.declared.memory.PageState.{PageState}
 use Rattle.guest_base.specs.declared.memory.PageRun.{PageRun}
-use Rattle.event_core.specs.Runs.{run_holds, run_end, state_in, GoesBefore, AreMaximalRuns}
-use Rattle.guest_map.specs.Ram.{AreOrdered, AreBelow, IsPushed, grown}
+use Rattle.event_core.specs.Runs.{run_holds, run_end, state_in, GoesBefore, AreMaximalRuns, grown}
+use Rattle.guest_map.specs.Ram.{AreOrdered, AreBelow, IsPushed}
 
 -- what was seen, joined: the runs that are done, and the last one, which may still grow
 pub record Joins (seen runs : List PageRun) (last : PageRun) : Type 0 where

@@ -33,13 +33,6 @@ pub record AreOrdered (runs : List PageRun) : Type 0 where
 abbrev pub AreBelow : ℕ → List PageRun → Type 0
 AreBelow page runs = All (λ (run : PageRun). run_end run ≤ page) runs
 
--- a run with the pages of the next behind it
-abbrev pub grown : PageRun → PageRun → PageRun
-grown last next = record {
-  pages = record { first = last.pages.first; count = last.pages.count + next.pages.count };
-  state = last.state;
-}
-
 -- the maximal runs of the pages of runs and of one more behind them
 pub record IsPushed (old : List PageRun) (next : PageRun) (new : List PageRun) : Type 0 where
   pub maximal : AreMaximalRuns (state_in (old ++ next ∷ [])) new

@@ -2,9 +2,9 @@
 ghost use Rattle.std.specs.Prelude.{◌≡◌, ◌∷◌, [], ◌+◌, ◌<◌, ◌≤◌, ◌^◌, IfOk, OnOk, IsTrue, ◌↔◌, map, filter, IsPermutation};
 ghost use Rattle.std.specs.List.Sorted.{IsNonDecreasingBy};
 ghost use Rattle.event_core.specs.Map.{MapRules, first_state};
-ghost use Rattle.event_core.specs.Runs.{AreMaximalRuns, state_in, run_end};
+ghost use Rattle.event_core.specs.Runs.{AreMaximalRuns, state_in, run_end, grown};
 ghost use Rattle.guest_base.specs.declared.limits.TheConstants.{PAGE_END};
-ghost use Rattle.guest_map.specs.Ram.{run_of, ram_of, AreOrdered, AreBelow, IsPushed, grown};
+ghost use Rattle.guest_map.specs.Ram.{run_of, ram_of, AreOrdered, AreBelow, IsPushed};
 
 use crate::map::{GuestMap, is_ram};
 use event_core::{Descriptor, Runs};

@@ -11,10 +11,10 @@ ghost use Rattle.guest_run.specs.Replies.{is_module, some_module, FaultsTold};
 
 use crate::answers::{after_report, range_refusal, reply_of_claim, span_of_claim};
 use crate::room::take_room;
-use crate::spans::{accept_span, copy_of, run_of, stopped_page, units_of};
+use crate::spans::{accept_span, copy_of, run_of, units_of};
 use event_core::{Boot, Command, Entries, Entry, Event, Place, Reply, Script, Turn};
 use guest_base::CpuNo;
-use memory_core::Memory;
+use memory_core::{Memory, stopped_page};
 use page_module::{Port, Span};
 use std::alloc::{AllocError, Global};
 

@@ -70,13 +70,3 @@ pub(crate) fn copy_of(alloc: Global, calls: &Calls) -> Result<Calls, AllocError>
 {
     Ok(Items::from_vec(calls.as_slice().to_vec(alloc)?))
 }
-
-/// The page at which an acceptance stopped.
-pub(crate) fn stopped_page(end: RunEnd) -> Option<Page>
-    ensures { result ≡ stopped_at end }
-{
-    match end {
-        RunEnd::Whole => None,
-        RunEnd::Stopped(page) => Some(page),
-    }
-}

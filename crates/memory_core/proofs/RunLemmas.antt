@@ -24,7 +24,7 @@ use Rattle.event_core.specs.Units.{bit_of, bit_after, is_marked, mark_step, mark
 use Rattle.event_core.specs.Acceptance.{AcceptanceSteps, goes_on_at, tried_at}
 use Rattle.event_core.specs.MemoryRows.{page_state, is_pending, pending_in, pages_first, pages_count, AcceptsUnits}
 use Rattle.event_core.proofs.BootFacts.{TakesNone}
-use Rattle.event_core.proofs.StepsLemmas.{steps-covers, steps-outside, not_both}
+use Rattle.event_core.proofs.StepsLemmas.{steps-covers, steps-outside, not_both, pending-if}
 use Rattle.event_core.proofs.SoundLemmas.{state_after-append}
 use Rattle.memory_core.specs.Booted.{MarksArePending, UnitsAreRam}
 
@@ -209,10 +209,6 @@ pub record OneRun (boot : Boot) (run : Units) (now : List ModuleCall) (table nex
   pub made : (page : ℕ) → new page ≡ state_after old now page
   pub put : (page : ℕ) → next page ≡ cond (in_range (pages_first boot run) (pages_count boot run) page) (new page) (table page)
   pub clears : (unit : ℕ) → cleared unit ≡ cond (in_range run.first run.count unit) (any_such (λ page. is_pending (new page)) (unit_first boot unit) (unit_pages boot)) (bits unit)
-
-pub pending-if : (b : Bool) (s : Option PageState) → is_pending (cond b s None) ≡ (b && is_pending s)
-pending-if true s = refl
-pending-if false s = refl
 
 -- the set that was accepted is the run's
 same-set : (boot : Boot) (calls : List ModuleCall) (run : Units) (table old : ℕ → Option PageState) → ((page : ℕ) → table page ≡ page_state boot calls page) → ((page : ℕ) → old page ≡ cond (in_range (pages_first boot run) (pages_count boot run) page) (table page) None) → (λ page. is_pending (old page)) ≡ pending_in boot calls run

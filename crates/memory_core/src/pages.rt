@@ -103,7 +103,7 @@ pub fn clear_run(bits: &mut Option<Bitmap>, span: &Span, run: Units) -> u64
 }
 
 /// The page at which an acceptance stopped.
-pub(crate) fn stopped_page(end: RunEnd) -> Option<Page>
+pub fn stopped_page(end: RunEnd) -> Option<Page>
     ensures { result ≡ stopped_at end }
 {
     match end {

@@ -8,9 +8,9 @@ use Rattle.guest_base.specs.Ranges.{in_range}
 use Rattle.guest_base.specs.declared.memory.PageRun.{PageRun}
 use Rattle.guest_base.specs.declared.memory.PageState.{PageState}
 use Rattle.guest_base.specs.declared.memory.PageState.TheVariants.{Pending, Accepted, Shared}
-use Rattle.event_core.specs.Runs.{state_in}
+use Rattle.event_core.specs.Runs.{state_in, grown}
 use Rattle.page_module.specs.Tables.{same_state, Rising, Differing}
-use Rattle.page_module.specs.Building.{continues, grown, both, joined, RunEnds}
+use Rattle.page_module.specs.Building.{continues, both, joined, RunEnds}
 use Rattle.event_core.specs.Runs.{run_end}
 use Rattle.guest_base.proofs.RangeLemmas.{in_range-intro, in_range-below, in_range-past}
 use Rattle.page_module.proofs.RangeCases.{where_is, below, within, past}

@@ -6,7 +6,7 @@ use Rattle.guest_base.specs.declared.limits.TheConstants.{PAGE_END}
 use Rattle.guest_base.specs.declared.memory.Pages.{Pages}
 use Rattle.guest_base.specs.declared.memory.PageRun.{PageRun}
 use Rattle.guest_base.specs.declared.memory.PageState.TheVariants.{Accepted}
-use Rattle.event_core.specs.Runs.{run_end, state_in}
+use Rattle.event_core.specs.Runs.{run_end, state_in, grown}
 use Rattle.page_module.specs.Tables.{same_state, Apart}
 use Rattle.page_module.specs.declared.span.TakenRun.{TakenRun}
 use Rattle.page_module.specs.declared.ticket.Ticket.{Ticket}
@@ -14,13 +14,6 @@ use Rattle.page_module.specs.declared.ticket.Ticket.{Ticket}
 -- a run goes on where another ends, in the same state
 abbrev pub continues : PageRun → PageRun → Bool
 continues last run = (run_end last == run.pages.first) && same_state last.state run.state
-
--- a run with the pages of the next one, which goes on where it ends
-abbrev pub grown : PageRun → PageRun → PageRun
-grown last run = record {
-  pages = record { first = last.pages.first; count = last.pages.count + run.pages.count };
-  state = last.state;
-}
 
 -- a run and the next one, which becomes part of it where it goes on in its state
 abbrev pub both : PageRun → PageRun → List PageRun

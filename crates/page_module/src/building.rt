@@ -3,8 +3,8 @@ ghost use Rattle.std.specs.Prelude.{◌≡◌, ◌+◌, ◌*◌, ◌^◌, ◌<�
 ghost use Rattle.std.specs.List.{flat_map};
 ghost use Rattle.guest_base.specs.declared.limits.TheConstants.{PAGE_END};
 ghost use Rattle.page_module.specs.Tables.{same_state};
-ghost use Rattle.page_module.specs.Building.{continues, grown, both, joined, part, cut, common, begins_before, parts, placed, RunEnds};
-ghost use Rattle.event_core.specs.Runs.{run_end};
+ghost use Rattle.page_module.specs.Building.{continues, both, joined, part, cut, common, begins_before, parts, placed, RunEnds};
+ghost use Rattle.event_core.specs.Runs.{run_end, grown};
 ghost use Rattle.page_module.specs.Spans.{LieInMemory};
 ghost use Rattle.page_module.specs.Marking.{EndsInMemory};
 
