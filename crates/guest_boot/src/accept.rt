@@ -1,5 +1,6 @@
 //! The acceptance of pages while a guest boots.
 ghost use Rattle.std.specs.Prelude.{◌≡◌, ◌≢◌, ℕ, ◌++◌, ◌^◌, ◌<◌, ◌≤◌, [], None, Some, true, false, Err, IfOk, OnOk, OnErr};
+ghost use Rattle.guest_base.specs.declared.limits.TheConstants.{PAGE_END};
 ghost use Rattle.guest_base.specs.Counts.{Rose};
 ghost use Rattle.guest_base.specs.Ranges.{in_range};
 ghost use Rattle.guest_base.specs.declared.memory.Page.{Page as PageValue};
@@ -46,7 +47,7 @@ fn work<P: Port>(
     port: &mut P,
     pages: Pages,
 ) -> Result<Worked, AllocError>
-    requires few { pages.count ≤ 2 ^ 28 }
+    requires few { pages.count ≤ PAGE_END }
     requires here { (page : ℕ) → in_range pages.first pages.count page ≡ true
         → state_in table.old.runs page ≢ None }
     requires none_out { table.old.out ≡ [] }

@@ -1,5 +1,6 @@
 //! The stages of boot.
 ghost use Rattle.std.specs.Prelude.{◌≡◌, ℕ, ◌+◌, ◌^◌, ◌<◌, ◌≤◌, Some, None, Err, All, IfOk, OnOk};
+ghost use Rattle.guest_base.specs.declared.limits.TheConstants.{ADDRESS_END, PAGE_END};
 ghost use Rattle.guest_base.specs.Counts.{Rose};
 ghost use Rattle.guest_base.specs.declared.memory.Block.{Block as BlockValue};
 ghost use Rattle.guest_base.specs.declared.memory.Page.{Page as PageValue};
@@ -49,7 +50,7 @@ fn unaccepted_runs(
     len: u64,
 ) -> Result<Vec<Units>, AllocError>
     requires some { 1 ≤ len }
-    requires end { start + len ≤ 2 ^ 40 }
+    requires end { start + len ≤ ADDRESS_END }
     ensures { IfOk result (λ runs.
         runs.items ≡ runs_in (bits_in bits.now) (guarded_by bits.now start len)) }
 {
@@ -87,7 +88,7 @@ fn accept_range<P: Port>(
     len: u64,
 ) -> Result<(), BootFault>
     requires some { 1 ≤ len }
-    requires end { start + len ≤ 2 ^ 40 }
+    requires end { start + len ≤ ADDRESS_END }
     requires booted { IsBooted boot.now }
     requires stands { StandsAfter boot.now (P.made port.old) kept.old }
     ensures done { WorkedOn boot.now (AcceptsRange boot.now (P.made port.old) start len)
@@ -111,7 +112,7 @@ fn accept_block<P: Port>(
     block: Block,
 ) -> Result<(), BootFault>
     requires order { block.order ≤ 10 }
-    requires low { block.first + 2 ^ block.order ≤ 2 ^ 28 }
+    requires low { block.first + 2 ^ block.order ≤ PAGE_END }
     requires booted { IsBooted boot.now }
     requires stands { StandsAfter boot.now (P.made port.old) kept.old }
     ensures done { WorkedOn boot.now (AcceptsBlock boot.now (P.made port.old) block)
@@ -142,7 +143,7 @@ pub(crate) fn accept_blocks<P: Port>(
     blocks: &[Block],
 ) -> Result<(), BootFault>
     requires orders { All (λ (b : BlockValue). b.order ≤ 10) blocks.now }
-    requires low { All (λ (b : BlockValue). b.first + 2 ^ b.order ≤ 2 ^ 28) blocks.now }
+    requires low { All (λ (b : BlockValue). b.first + 2 ^ b.order ≤ PAGE_END) blocks.now }
     requires booted { IsBooted boot.now }
     requires stands { StandsAfter boot.now (P.made port.old) kept.old }
     ensures done { WorkedOn boot.now (InTurn (AcceptsBlock boot.now) (P.made port.old) blocks.now)

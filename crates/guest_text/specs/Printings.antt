@@ -1,4 +1,5 @@
 use Rattle.std.specs.Prelude.{ℕ, List, false, ◌^◌, ◌≤◌, All}
+use Rattle.guest_base.specs.declared.limits.TheConstants.{PAGE_END}
 use Rattle.guest_base.specs.declared.memory.PageRun.{PageRun}
 use Rattle.event_core.specs.declared.boot.Recorded.{Recorded}
 use Rattle.event_core.specs.Calls.{calls_of}
@@ -11,7 +12,7 @@ use Rattle.guest_text.specs.Putting.{Putting, Put, PutFront}
 
 -- the runs end within memory, which has 2^28 pages
 abbrev pub EndInMemory : List PageRun → Type 0
-EndInMemory runs = All (λ (run : PageRun). run_end run ≤ 2 ^ 28) runs
+EndInMemory runs = All (λ (run : PageRun). run_end run ≤ PAGE_END) runs
 
 -- the final runs of pages: the maximal runs by their states after all entries, which end in memory
 pub record FinalRuns (r : Recorded) (runs : List PageRun) : Type 0 where
