@@ -1,4 +1,4 @@
-use Rattle.std.proofs.Common.{◌≡◌, ℕ, ◌+◌, ◌<◌, ◌≤◌, Bool, true, false, Option, None, Some, List, [], ◌∷◌, ◌++◌, refl, sym, ◌∙◌, ap, subst, inl, inr, arith, cond, append_assoc, append-nil, eq-eqb, max, All}
+use Rattle.std.proofs.Common.{◌≡◌, ℕ, ◌+◌, ◌<◌, ◌≤◌, Bool, true, false, Option, None, Some, List, [], ◌∷◌, ◌++◌, refl, sym, ◌∙◌, ap, subst, inl, inr, arith, cond, eq-eqb, max, All}
 use Rattle.std.specs.Prelude.{fold, map, filter, is_some, slice_get, count_by}
 use Rattle.std.specs.Option.{option_and_then, option_map}
 use Rattle.std.specs.List.{AllByRecursion}
@@ -29,7 +29,6 @@ use Rattle.event_core.specs.MemoryRows.{run_of_claim, report_event, next_run, cl
 use Rattle.event_core.specs.Next.{Step, next_step, step_of, unrefused_step, refused_or, accept_step, claim_reply, report_reply}
 use Rattle.event_core.specs.Legal.{Follows, LegalAfter, bare, with_bytes, moved_after, with_moved, at_place, place_of, same_place, CallsFit, ComesBefore, greatest_stamp, stamp_of}
 use Rattle.event_core.proofs.StandingLemmas.{IsPlaced, claim_of-memory, calls_of-memory}
-use Rattle.event_core.proofs.SoundLemmas.{entries_of-push}
 use Rattle.memory_core.specs.Steps.{last_stamp}
 use Rattle.guest_run.specs.Running.{IsMine, OwnHistory, entry_for, Running, memory_of}
 use Rattle.event_core.proofs.LocalLemmas.{moved-entries}

@@ -1,4 +1,4 @@
-use Rattle.std.specs.Prelude.{ℕ, List, Option, None, Some, ◌≡◌, ◌+◌, ◌^◌, ◌<◌, ◌≤◌, length, slice_get}
+use Rattle.std.specs.Prelude.{ℕ, List, Option, None, Some, ◌≡◌, ◌+◌, ◌<◌, ◌≤◌, length, slice_get}
 use Rattle.guest_base.specs.declared.limits.TheConstants.{PAGE_END}
 use Rattle.event_core.specs.declared.command.Command.TheVariants.{Accept}
 use Rattle.event_core.specs.declared.entry.Turn.{Turn}

@@ -1,4 +1,4 @@
-use Rattle.std.specs.Prelude.{ℕ, List, false, ◌^◌, ◌≤◌, All}
+use Rattle.std.specs.Prelude.{ℕ, List, false, ◌≤◌, All}
 use Rattle.guest_base.specs.declared.limits.TheConstants.{PAGE_END}
 use Rattle.guest_base.specs.declared.memory.PageRun.{PageRun}
 use Rattle.event_core.specs.declared.boot.Recorded.{Recorded}
