@@ -165,15 +165,13 @@ claim-run p number memory units (Some r) (Some s) ready same begun is =
 -- what a run that is out is known of
 record OutRun (boot : Boot) (run : Units) (span : Taken) : Type 0 where
   some : 0 < run.count
-  low : span.ticket.pages.first + span.ticket.pages.count ≤ 2 ^ 28
   more : 0 < span.ticket.pages.count
 
-out-run : (boot : Boot) (calls : List ModuleCall) (from end : ℕ) (run : Units) (span : Taken) → IsBooted boot → IsRunIn (bit_after boot calls) from end run → span.ticket.pages ≡ pages_of boot run → span.ticket.pages.first + span.ticket.pages.count ≤ 2 ^ 28 → OutRun boot run span
-out-run boot calls from end run span booted facts is low =
+out-run : (boot : Boot) (calls : List ModuleCall) (from end : ℕ) (run : Units) (span : Taken) → IsBooted boot → IsRunIn (bit_after boot calls) from end run → span.ticket.pages ≡ pages_of boot run → OutRun boot run span
+out-run boot calls from end run span booted facts is =
     let more = pages-some boot run booted.some facts.some in
     record {
       some = facts.some;
-      low = low;
       more = (let P : Pages → Type 0 = λ pages. 0 < pages.count in subst P (sym is) more);
     }
 
@@ -189,7 +187,7 @@ claim-ends p number start len stamp memory e r None (Some run) (Some s) ready no
 claim-ends p number start len stamp memory e r (Some u) (Some run) (Some s) ready now fine same begun is_run is at =
     let calls = calls_of p.boot p.memory.entries in
     let claim : Claimed = record { block = None; units = u; run = run; before = calls; cleared = 0 } in
-    let facts = out-run p.boot calls u.first (units_end u) run s ready.booted (first_run-facts (bit_after p.boot calls) u.first (units_end u) run (sym is)) is_run begun.out.low in
+    let facts = out-run p.boot calls u.first (units_end u) run s ready.booted (first_run-facts (bit_after p.boot calls) u.first (units_end u) run (sym is)) is_run in
     let zero_more : number + 0 ≡ number = omega arith in
     let P : ℕ → Type 0 = λ n. At p.boot p.script (p.entries ++ entry_with stamp number place.Memory e r ∷ []) memory.entries n (Some claim) in
     let Q : Units → Type 0 = λ x. IsOutFor memory 0 x s in
@@ -200,7 +198,6 @@ claim-ends p number start len stamp memory e r (Some u) (Some run) (Some s) read
       booted = ready.booted;
       out = subst Q (sym (out-is p.boot memory begun.run run s same ready.booted.some begun.out is_run)) begun.out;
       some = facts.some;
-      low = facts.low;
       more = facts.more;
       start = start;
       len = len;
@@ -296,7 +293,7 @@ report-ends p number stamp memory span e calls Stopped None c same by is told at
 report-ends p number stamp memory span e calls (Next s) (Some next) c same by is told at =
     let before = calls_of p.boot p.memory.entries in
     let claim = next_claim p.boot before calls c.claim next in
-    let facts = out-run p.boot c.claim.before (units_end c.claim.run) (units_end c.claim.units) next s c.booted (next-facts p.boot c.claim (stop_of calls) next (sym told.behind)) is by.out.low in
+    let facts = out-run p.boot c.claim.before (units_end c.claim.run) (units_end c.claim.units) next s c.booted (next-facts p.boot c.claim (stop_of calls) next (sym told.behind)) is in
     let zero_more : number + 0 ≡ number = omega arith in
     let P : ℕ → Type 0 = λ n. At p.boot p.script (p.entries ++ entry_with stamp number place.Memory e None ∷ []) memory.entries n (Some claim) in
     let C : Option Claimed → Type 0 = λ x. At p.boot p.script (p.entries ++ entry_with stamp number place.Memory e None ∷ []) memory.entries (number + 0) x in
@@ -308,7 +305,6 @@ report-ends p number stamp memory span e calls (Next s) (Some next) c same by is
       booted = c.booted;
       out = subst Q (sym (out-is p.boot memory by.run next s same c.booted.some by.out is)) by.out;
       some = facts.some;
-      low = facts.low;
       more = facts.more;
       start = c.start;
       len = c.len;

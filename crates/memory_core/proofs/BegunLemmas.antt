@@ -1,9 +1,8 @@
-use Rattle.std.proofs.Common.{◌≡◌, ℕ, ◌+◌, ◌^◌, ◌<◌, ◌≤◌, Option, None, Some, List, [], ◌∷◌, ◌++◌, refl, sym, ◌∙◌, ap, subst, arith, max, length}
+use Rattle.std.proofs.Common.{◌≡◌, ℕ, ◌+◌, ◌^◌, ◌<◌, Option, None, Some, List, [], ◌∷◌, ◌++◌, refl, sym, ◌∙◌, ap, subst, arith, max, length}
 use Rattle.std.specs.Prelude.{slice_set, map}
 use Rattle.std.specs.Option.{ForSome, option_and_then}
 use Rattle.guest_base.specs.Search.{count_such}
 use Rattle.guest_base.proofs.SearchLemmas.{count_such_same}
-use Rattle.guest_base.specs.declared.memory.Pages.{Pages}
 use Rattle.guest_base.specs.declared.memory.Units.{Units}
 use Rattle.event_core.specs.declared.boot.Boot.{Boot}
 use Rattle.event_core.specs.declared.entry.Entry.{Entry}
@@ -14,7 +13,7 @@ use Rattle.event_core.specs.declared.module_call.ModuleCall.{ModuleCall}
 use Rattle.event_core.specs.Acceptance.{stop_of}
 use Rattle.event_core.specs.Calls.{calls_of}
 use Rattle.event_core.specs.Claims.{Claimed, in_the_way}
-use Rattle.event_core.specs.MemoryRows.{page_state, pages_first, pages_count, run_of_claim, next_run}
+use Rattle.event_core.specs.MemoryRows.{page_state, run_of_claim, next_run}
 use Rattle.event_core.specs.Units.{bit_after, guarded_units, first_run}
 use Rattle.page_module.specs.Spans.{Taken}
 use Rattle.event_core.specs.Table.{Bits}
@@ -120,24 +119,23 @@ others-kept boot entries entries' claims claims' room room' cpu k calls is = rec
 }
 
 -- what is out with the processor is the span of the run
-abbrev pub out-for : (boot : Boot) (entries : List Entry) (claims claims' : List (Option OpenClaim)) (room cpu : ℕ) (run : Units) (span : Taken) (o : OpenClaim) (calls : List ModuleCall) → cpu < length claims → claims' ≡ slice_set claims cpu (Some o) → o.ticket ≡ span.ticket → calls_of boot entries ≡ calls → HasStates boot calls run span → pages_first boot run + pages_count boot run ≤ 2 ^ 28 → IsOutFor (seen boot entries claims' room) cpu run span
-out-for boot entries claims claims' room cpu run span o calls inside is ticket calls_are has low = record {
+abbrev pub out-for : (boot : Boot) (entries : List Entry) (claims claims' : List (Option OpenClaim)) (room cpu : ℕ) (run : Units) (span : Taken) (o : OpenClaim) (calls : List ModuleCall) → cpu < length claims → claims' ≡ slice_set claims cpu (Some o) → o.ticket ≡ span.ticket → calls_of boot entries ≡ calls → HasStates boot calls run span → IsOutFor (seen boot entries claims' room) cpu run span
+out-for boot entries claims claims' room cpu run span o calls inside is ticket calls_are has = record {
   room = o.room;
   handed = handed-is claims' cpu ∙ ap (λ cs. handed_for (kept_of cs cpu)) is ∙ ap handed_for (kept-same claims cpu (Some o) inside) ∙ ap (λ t. Some (let h : Handed = record { ticket = t; room = o.room } in h)) ticket;
   has = (let P : List ModuleCall → Type 0 = λ cs. HasStates boot cs run span in subst P (sym calls_are) has);
-  low = (let P : Pages → Type 0 = λ pages. pages.first + pages.count ≤ 2 ^ 28 in subst P (sym has.pages) low);
 }
 
 -- the claim is begun: the span of its first run is out, and the room for its end is kept
 pub opens-of : (boot : Boot) (entries entries' : List Entry) (claims claims' : List (Option OpenClaim)) (room cpu : ℕ) (U : Option Units) (run : Units) (span : Taken) (o : OpenClaim) (calls : List ModuleCall)
     → in_the_way boot entries U ≡ None → run_of_claim boot entries U ≡ Some run → o.room + run.count + 1 ≡ room
-    → cpu < length claims → claims' ≡ slice_set claims cpu (Some o) → o.ticket ≡ span.ticket → calls_of boot entries' ≡ calls → HasStates boot calls run span → pages_first boot run + pages_count boot run ≤ 2 ^ 28
+    → cpu < length claims → claims' ≡ slice_set claims cpu (Some o) → o.ticket ≡ span.ticket → calls_of boot entries' ≡ calls → HasStates boot calls run span
     → Opens (seen boot entries claims room) (seen boot entries' claims' 0) cpu U span
-opens-of boot entries entries' claims claims' room cpu U run span o calls free first kept inside is ticket calls_are has low = record {
+opens-of boot entries entries' claims claims' room cpu U run span o calls free first kept inside is ticket calls_are has = record {
   run = run;
   free = free;
   first = first;
-  out = out-for boot entries' claims claims' 0 cpu run span o calls inside is ticket calls_are has low;
+  out = out-for boot entries' claims claims' 0 cpu run span o calls inside is ticket calls_are has;
   kept = kept;
   left = refl;
 }
@@ -145,12 +143,12 @@ opens-of boot entries entries' claims claims' room cpu U run span o calls free f
 -- the claim goes on: the span of its next run is out
 pub goes-on-of : (boot : Boot) (entries entries' : List Entry) (claims claims' : List (Option OpenClaim)) (room cpu : ℕ) (claim : Claimed) (now : List ModuleCall) (run : Units) (span : Taken) (was o : OpenClaim) (calls : List ModuleCall)
     → next_run boot claim (stop_of now) ≡ Some run → kept_of claims cpu ≡ Some was → o.room + run.count ≡ was.room
-    → cpu < length claims → claims' ≡ slice_set claims cpu (Some o) → o.ticket ≡ span.ticket → calls_of boot entries' ≡ calls → HasStates boot calls run span → pages_first boot run + pages_count boot run ≤ 2 ^ 28
+    → cpu < length claims → claims' ≡ slice_set claims cpu (Some o) → o.ticket ≡ span.ticket → calls_of boot entries' ≡ calls → HasStates boot calls run span
     → GoesOn (seen boot entries claims room) (seen boot entries' claims' 0) cpu claim now span
-goes-on-of boot entries entries' claims claims' room cpu claim now run span was o calls next has_was kept inside is ticket calls_are has low = record {
+goes-on-of boot entries entries' claims claims' room cpu claim now run span was o calls next has_was kept inside is ticket calls_are has = record {
   run = run;
   next = next;
-  out = out-for boot entries' claims claims' 0 cpu run span o calls inside is ticket calls_are has low;
+  out = out-for boot entries' claims claims' 0 cpu run span o calls inside is ticket calls_are has;
   kept = λ handed handed_is.
       let made : Handed = record { ticket = was.ticket; room = was.room } in
       let same : Some made ≡ Some handed = sym (handed-is claims cpu ∙ ap handed_for has_was) ∙ handed_is in

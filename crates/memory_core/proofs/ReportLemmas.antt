@@ -1,4 +1,4 @@
-use Rattle.std.proofs.Common.{◌≡◌, ◌≢◌, ℕ, ◌+◌, ◌-◌, ◌*◌, ◌^◌, ◌<◌, ◌≤◌, true, false, Option, None, Some, List, [], ◌∷◌, ◌++◌, refl, sym, ◌∙◌, ap, subst, arith, cond}
+use Rattle.std.proofs.Common.{◌≡◌, ◌≢◌, ℕ, ◌+◌, ◌-◌, ◌*◌, ◌<◌, ◌≤◌, true, false, Option, None, Some, List, [], ◌∷◌, ◌++◌, refl, sym, ◌∙◌, ap, subst, arith, cond}
 use Rattle.std.specs.Prelude.{◌==◌, drop}
 use Rattle.std.proofs.Math.Nat.{mul-le-mul_right}
 use Rattle.guest_base.proofs.RangeLemmas.{in_range-intro, in_range-elim, in_range-past}
@@ -22,7 +22,6 @@ use Rattle.accept_sizes.specs.Accepts.{pending_of}
 use Rattle.accept_sizes.specs.Ends.{stopped_at}
 use Rattle.accept_sizes.specs.declared.accept.RunEnd.{RunEnd}
 use Rattle.accept_sizes.specs.declared.accept.RunEnd.TheVariants.{Whole, Stopped}
-use Rattle.memory_core.specs.Booted.{IsBooted}
 use Rattle.memory_core.specs.Bitmaps.{bits_in, SameBits, ClearedIn, AreRunsFrom, next_of}
 use Rattle.memory_core.specs.Steps.{HasStates, pages_of, BringsTo, IsInTable}
 use Rattle.memory_core.specs.StandsFor.{HoldsFor, OpenStands, pieces_for}
@@ -30,7 +29,7 @@ use Rattle.memory_core.specs.declared.claims.OpenClaim.{OpenClaim}
 use Rattle.memory_core.proofs.KeptLemmas.{kept-first, kept-rest}
 use Rattle.memory_core.proofs.HoldsLemmas.{open-kept, kept-open, holds-open, holds-close, OthersSame, Returns, one-run, stands-virtual, other-unit, others-page, put_back}
 use Rattle.memory_core.proofs.RunLemmas.{run-stands, run-cleared}
-use Rattle.memory_core.proofs.UnitsLemmas.{first_run-facts, IsRunIn, runs-apart, run-counts, run-page-some, run-low}
+use Rattle.memory_core.proofs.UnitsLemmas.{first_run-facts, IsRunIn, runs-apart, run-counts, run-page-some}
 use Rattle.memory_core.proofs.BitsLemmas.{cleared-bits, cleared-count}
 use Rattle.memory_core.proofs.StepLemmas.{same-is, not-same}
 use Rattle.memory_core.proofs.OpenLemmas.{run-in, has-states, runs-few, room-left}
@@ -216,12 +215,6 @@ module _ (boot : Boot) (calls now : List ModuleCall) (claims : ℕ → Option Cl
   next-here run is page inside none =
       run-page-some boot (calls ++ now) run left-holds.ram (λ unit in_run. sym (left-holds.bits unit) ∙ (next-facts run is).set unit in_run) page inside
       (sym (left-holds.states page (next-in run is page inside)) ∙ none)
-
-  -- they end within memory
-  pub next-low : (run : Units) → IsBooted boot → next_run boot claim None ≡ Some run → pages_first boot run + pages_count boot run ≤ 2 ^ 28
-  next-low run booted is =
-      let facts = next-facts run is in
-      (run-low boot (calls ++ now) run booted left-holds.ram facts.some (λ unit in_run. sym (left-holds.bits unit) ∙ facts.set unit in_run)).0
 
   -- the span that is taken has its pages' states
   pub next-has : (run : Units) (asked : Pages) (span' : Taken) → next_run boot claim None ≡ Some run → asked ≡ pages_of boot run → span'.ticket.pages ≡ asked

@@ -1,6 +1,6 @@
 use Rattle.std.specs.Prelude.{ℕ, List, [], ◌∷◌, ◌++◌, Option, None, Some, false, ◌≡◌, ◌+◌, ◌^◌, ◌<◌, ◌≤◌, fold, max, if◌then◌else◌}
 use Rattle.std.specs.Option.{option_map_or}
-use Rattle.guest_base.specs.declared.limits.TheConstants.{ADDRESS_END, PAGE_END}
+use Rattle.guest_base.specs.declared.limits.TheConstants.{ADDRESS_END}
 use Rattle.guest_base.specs.Ranges.{in_range}
 use Rattle.guest_base.specs.Search.{count_such}
 use Rattle.guest_base.specs.declared.memory.Pages.{Pages}
@@ -89,12 +89,11 @@ pub record HasStates (boot : Boot) (calls : List ModuleCall) (run : Units)
       ≡ (if in_range (pages_first boot run) (pages_count boot run) page
       then page_state boot calls page else None)
 
--- the span is out with a processor, for its open run; its pages end within those of memory
+-- the span is out with a processor, for its open run
 pub record IsOutFor (memory : MemoryValue) (cpu : ℕ) (run : Units) (span : Taken) : Type 0 where
   pub room : ℕ
   pub handed : handed_to memory cpu ≡ Some (record { ticket = span.ticket; room = room })
   pub has : HasStates memory.boot (calls_of memory.boot memory.entries) run span
-  pub low : span.ticket.pages.first + span.ticket.pages.count ≤ PAGE_END
 
 -- calls brought the span from the states in which it is out, with this end
 pub record BringsTo (boot : Boot) (before : List ModuleCall) (run : Units) (span : Taken)

@@ -186,7 +186,6 @@ impl Memory {
     pub fn claim_units(&self, start: u64, len: u64) -> Option<Units>
         requires { IsByteRange start len }
         ensures units { result ≡ guarded_units self.now.boot start len }
-        ensures end { IfSome result (λ u. u.first + u.count < 2 ^ 64) }
     {
         guarded_units_of(&self.bits, start, len)
     }

@@ -23,7 +23,7 @@ use Rattle.memory_core.proofs.BitsLemmas.{guarded-same, run-pages-are}
 use Rattle.memory_core.proofs.HoldsLemmas.{none-kept}
 use Rattle.memory_core.proofs.OpenLemmas.{way-some, way-none, room-take, runs-few, has-states}
 use Rattle.memory_core.proofs.StepLemmas.{stands-more, calls-claimed, claims-closed}
-use Rattle.memory_core.proofs.UnitsLemmas.{run-page-some, run-low}
+use Rattle.memory_core.proofs.UnitsLemmas.{run-page-some}
 use Rattle.memory_core.proofs.memory.Memory.begin_accept.Goals as goal
 
 pub returns-in-Some-clause-begun : goal.returns-in-Some-clause-begun
@@ -205,8 +205,7 @@ returns-in-Some-both_of-clause-begun c =
     (c.add.ensures ∙ ap (λ n. slice_set i.accepting n (Some (made_claim units run c.replace.result c.ticket.result left))) cpu_now) c.ticket.ensures
     (ap (calls_of i.boot.value) c.append.ensures.entries ∙ calls-claimed i.boot.value i.entries.items turn i.last U R)
     (has-states i.boot.value calls (claim_of i.boot.value i.entries.items) run c.run_pages.result i.table.runs c.take-span.result pages c.take-span.ensures.pages c.take-span.ensures.states
-    (claimed-in i.boot.value i.entries i.last i.table i.bits i.accepting i.unit_pages i.kept i.room units run s f.clear first) s.holds.states)
-    (run-low i.boot.value calls run s.booted s.holds.ram first.some (λ unit h. sym (s.holds.bits unit) ∙ first.set unit h)).0)
+    (claimed-in i.boot.value i.entries i.last i.table i.bits i.accepting i.unit_pages i.kept i.room units run s f.clear first) s.holds.states))
 
 pub returns-in-Some-both_of-clause-appends : goal.returns-in-Some-both_of-clause-appends
 returns-in-Some-both_of-clause-appends c free =

@@ -27,7 +27,7 @@ use Rattle.memory_core.proofs.CloseLemmas.{stands-closed, stands-next, calls-aft
 use Rattle.memory_core.proofs.KeptLemmas.{opened-less}
 use Rattle.memory_core.proofs.HoldsLemmas.{kept-open}
 use Rattle.memory_core.proofs.OpenLemmas.{kept-same, room-take, runs-few}
-use Rattle.memory_core.proofs.ReportLemmas.{opened, next-here, next-low, next-has}
+use Rattle.memory_core.proofs.ReportLemmas.{opened, next-here, next-has}
 use Rattle.memory_core.proofs.ReportedLemmas.{same-claim, reports-of, kept-covers, kept-next, clock-kept, next-opens, next-found, entries-are, cleared-is, others-reported, reported-closed, appends-reported}
 use Rattle.memory_core.proofs.memory.Memory.report.Goals as goal
 
@@ -171,7 +171,6 @@ returns-in-Some-clause-reported c claim' has =
     (c.with_next-claim.ensures ∙ ap (λ t. let k : OpenClaim = record made { ticket = t } in k) c.ticket.ensures) in
     let same = same-claim (claim_of c.args.self.now.boot c.args.self.now.entries c.args.turn.now.cpu.0) c.requires.brings.0 claim' c.requires.brings.1 has in
     let span = c.take-span.result in
-    let low = next-low i.boot.value (calls_of i.boot.value i.entries.items) c.args.calls (claim_of i.boot.value i.entries.items) i.table c.put.new.self i.bits c.clear_run.new.bits (kept_of i.accepting) c.args.turn.now.cpu.0 c.remove-claim.result c.requires.brings.0 c.args.span c.args.end c.clear_run.result r c.in-Some.run' s.booted n.whole in
     let states = next-has i.boot.value (calls_of i.boot.value i.entries.items) c.args.calls (claim_of i.boot.value i.entries.items) i.table c.put.new.self i.bits c.clear_run.new.bits (kept_of i.accepting) c.args.turn.now.cpu.0 c.remove-claim.result c.requires.brings.0 c.args.span c.args.end c.clear_run.result r c.in-Some.run' c.run_pages.result span n.whole pages c.take-span.ensures.pages c.take-span.ensures.states in
     let P : MemoryValue → Type 0 = λ m. GoesOn m (seen i.boot.value c.append.new.entries.items c.add.new.self 0) c.args.turn.now.cpu.0 claim' c.args.calls span in
     let Q : Claimed → Type 0 = λ x. GoesOn (seen i.boot.value i.entries.items i.accepting i.room) (seen i.boot.value c.append.new.entries.items c.add.new.self 0) c.args.turn.now.cpu.0 x c.args.calls span in
@@ -179,7 +178,7 @@ returns-in-Some-clause-reported c claim' has =
     (subst Q same
     (goes-on-of i.boot.value i.entries.items c.append.new.entries.items i.accepting c.add.new.self i.room c.args.turn.now.cpu.0 c.requires.brings.0 c.args.calls c.in-Some.run' span c.remove-claim.result made (calls_of i.boot.value i.entries.items ++ c.args.calls)
     n.next c.remove-claim.ensures.taken (let fits = n.fits in omega (arith, fits)) (kept_of-inside i.accepting c.args.turn.now.cpu.0 c.remove-claim.result c.remove-claim.ensures.taken) set refl
-    (calls-after i.boot.value i.entries.items c.append.new.entries.items c.args.turn.now i.last c.requires.brings.0 c.args.calls entries) states low))
+    (calls-after i.boot.value i.entries.items c.append.new.entries.items c.args.turn.now i.last c.requires.brings.0 c.args.calls entries) states))
 
 pub returns-in-Some-clause-appends : goal.returns-in-Some-clause-appends
 returns-in-Some-clause-appends c claim' has =
