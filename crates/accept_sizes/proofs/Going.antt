@@ -1,8 +1,9 @@
-use Rattle.std.proofs.Common.{◌≡◌, ◌≢◌, ◌⊎◌, ℕ, ◌+◌, ◌-◌, ◌/◌, ◌%◌, ◌^◌, ◌<◌, ◌≤◌, Bool, true, false, ◌&&◌, Option, None, Some, List, [], ◌∷◌, ◌++◌, refl, sym, ◌∙◌, ap, subst, inl, inr, arith, cond, append_assoc, append-nil, ◌==◌, eqb-true, eq-eqb}
+use Rattle.std.proofs.Common.{length, length-append, ◌≡◌, ◌≢◌, ◌⊎◌, ℕ, ◌+◌, ◌-◌, ◌/◌, ◌%◌, ◌^◌, ◌<◌, ◌≤◌, Bool, true, false, ◌&&◌, Option, None, Some, List, [], ◌∷◌, ◌++◌, refl, sym, ◌∙◌, ap, subst, inl, inr, arith, cond, append_assoc, append-nil, ◌==◌, eqb-true, eq-eqb}
 use Rattle.std.specs.Prelude.{nat_le}
 use Rattle.std.proofs.lemmas.Bool.{cases_Bool, cases_lt}
 use Rattle.guest_base.specs.Ranges.{in_range}
 use Rattle.guest_base.specs.Search.{each_such}
+use Rattle.guest_base.proofs.RangeLemmas.{in_range-intro}
 use Rattle.guest_base.proofs.SearchLemmas.{each_such_is, each_such-true, first_such_is, first_such_none}
 use Rattle.guest_base.specs.Levels.{level_pages, level_at}
 use Rattle.guest_base.specs.declared.memory.Level.{Level}
@@ -19,7 +20,7 @@ use Rattle.event_core.proofs.SoundLemmas.{state_after-append}
 use Rattle.event_core.proofs.StepsLemmas.{not_both}
 use Rattle.event_core.specs.Acceptance.{fits, levels_below, greatest_fitting, place_of_next, MayEnd, AcceptanceSteps, goes_on_at, tried_at, stop_of, stop_by}
 use Rattle.event_core.specs.MemoryRows.{is_pending}
-use Rattle.page_module.specs.States.{state_in}
+use Rattle.event_core.specs.Runs.{state_in}
 use Rattle.page_module.specs.Spans.{Taken, Becomes}
 use Rattle.page_module.specs.Marking.{IsFirstPending, NonePending}
 use Rattle.page_module.specs.Modules.{answer_by, accept_call, AfterCall, MayAccept}
@@ -77,9 +78,6 @@ pub record FoundRun (old : Taken) (from : ℕ) (tried : Option Level) (place lef
 -- every page with a state lies in the span
 pub record Within (old : Taken) : Type 0 where
   pub within : (page : ℕ) → state_in old.runs page ≢ None → page < span_end old
-
-in_range-intro : (first count n : ℕ) → first ≤ n → n < first + count → in_range first count n ≡ true
-in_range-intro first count n low high = grind arith
 
 found_same : (now : Taken) (from : ℕ) (tried : Option Level) (place left : ℕ) → WasTried now from tried → IsFirstPending now from (record { first = place; count = left }) → tried ≢ None → from ≡ place
 found_same now from None place left was run some = absurd (some refl)
@@ -451,6 +449,10 @@ pub left-failed : (old : Taken) (from place left : ℕ) (tried : Option Level) (
 left-failed old from place left tried level is found small big =
     let P : Level → Type 0 = LevelFits place left in
     failed_level (span_end old) from place left tried level is found.low found.below (subst P (sym is) (level-fits place left tried found.some)) found.same small big
+
+-- how many calls there are with those made
+pub length-calls : (old now calls : List ModuleCall) → now ≡ old ++ calls → length now ≡ length old + length calls
+length-calls old now calls is = ap (λ (l : List ModuleCall). length l) is ∙ length-append old calls
 
 pub left-first : (first count : ℕ) → calls_left first (first + count) None ≤ most_calls_of count
 left-first first count = omega arith

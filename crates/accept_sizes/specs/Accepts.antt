@@ -4,7 +4,7 @@ use Rattle.event_core.specs.declared.module_call.ModuleCall.{ModuleCall}
 use Rattle.event_core.specs.Acceptance.{AcceptanceSteps}
 use Rattle.event_core.specs.Calls.{state_after}
 use Rattle.event_core.specs.MemoryRows.{is_pending}
-use Rattle.page_module.specs.States.{state_in}
+use Rattle.event_core.specs.Runs.{state_in}
 use Rattle.page_module.specs.Spans.{Taken}
 
 -- the pending pages of a span
@@ -15,8 +15,10 @@ pending_of span page = is_pending (state_in span.runs page)
 abbrev pub span_end : Taken → ℕ
 span_end span = span.ticket.pages.first + span.ticket.pages.count
 
--- these calls accept the pending pages of a span by sizes, and leave its pages in the states that they make
+-- these calls accept the pending pages of a span by sizes, and leave its pages in the states that
+-- they make
 pub record Accepts (hosts : List HostRun) (old new : Taken) (calls : List ModuleCall) : Type 0 where
-  pub steps : AcceptanceSteps hosts (pending_of old) (span_end old) old.ticket.pages.first None calls
+  pub steps :
+      AcceptanceSteps hosts (pending_of old) (span_end old) old.ticket.pages.first None calls
   pub ticket : new.ticket ≡ old.ticket
   pub states : (page : ℕ) → state_in new.runs page ≡ state_after (state_in old.runs) calls page

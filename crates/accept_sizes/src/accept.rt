@@ -1,6 +1,7 @@
 //! The steps of an acceptance.
-ghost use Rattle.std.specs.Prelude.{◌≡◌, ◌≢◌, ◌⊎◌, ℕ, List, [], ◌∷◌, ◌++◌, ◌+◌, ◌^◌, ◌<◌, ◌≤◌, Bool, true, false, Option, None, Some};
+ghost use Rattle.std.specs.Prelude.{◌≡◌, ◌≢◌, ◌⊎◌, ℕ, List, [], ◌∷◌, ◌++◌, ◌+◌, ◌<◌, ◌≤◌, length, Bool, true, false, Option, None, Some};
 ghost use Rattle.guest_base.specs.Counts.{Rose};
+ghost use Rattle.guest_base.specs.declared.limits.TheConstants.{PAGE_END};
 ghost use Rattle.guest_base.specs.Levels.{level_at, level_pages};
 ghost use Rattle.guest_base.specs.declared.memory.PageState.TheVariants.{Accepted};
 ghost use Rattle.guest_base.specs.declared.memory.Level.TheVariants.{Small};
@@ -8,7 +9,7 @@ ghost use Rattle.event_core.specs.declared.module_call.ModuleCall.{ModuleCall};
 ghost use Rattle.event_core.specs.Acceptance.{stop_of};
 ghost use Rattle.accept_sizes.specs.Trying.{fits_left, level_below};
 ghost use Rattle.page_module.specs.Modules.{MayAccept, answer_by, accept_call, AfterCall};
-ghost use Rattle.accept_sizes.specs.Room.{most_calls_of};
+ghost use Rattle.accept_sizes.specs.Room.{most_calls_of, KeepsRoom};
 ghost use Rattle.accept_sizes.specs.Accepts.{Accepts, span_end};
 ghost use Rattle.accept_sizes.specs.Ends.{stopped_at};
 
@@ -27,22 +28,22 @@ pub enum RunEnd {
     Stopped(Page),
 }
 
-/// The most calls that the acceptance of so many pages makes.
+/// The most calls that the acceptance of this many pages makes.
 pub fn most_calls(pages: u64) -> u64
-    requires { pages ≤ 2 ^ 28 }
+    requires { pages ≤ PAGE_END }
     ensures { result ≡ most_calls_of pages }
 {
     pages + pages / 512 + pages / 262_144
 }
 
-/// Whether a call of this level may be made at a place from which so many pages are pending.
+/// Whether a call of this level may be made at a place from which this many pages are pending.
 fn is_level_fitting(level: Level, place: u64, left: u64) -> bool
     ensures { result ≡ fits_left place left level }
 {
     place % level.pages() == 0 && level.pages() <= left
 }
 
-/// The greatest level that fits at a place from which so many pages are pending, below the one that was
+/// The greatest level that fits at a place from which this many pages are pending, below the one that was
 /// tried there.
 fn level_to_try(place: u64, left: u64, tried: Option<Level>) -> Level
     ensures { result ≡ level_below place left tried }
@@ -70,7 +71,8 @@ fn try_call<P: Port>(
     ensures noted { log.new.calls ≡ log.old.calls ++ accept_call place.0 level result ∷ [] }
     ensures room { P.room port.old ≤ P.room port.new + 1 }
     ensures log_room { log.old.room ≤ log.new.room + 1 }
-    ensures answer { (result ≡ PortAnswer.Failed) ⊎ (result ≡ answer_by level (level_at hosts.now place.0)) }
+    ensures answer { (result ≡ PortAnswer.Failed)
+        ⊎ (result ≡ answer_by level (level_at hosts.now place.0)) }
     ensures failed { result ≡ PortAnswer.Failed → Rose (P.faults port.old) (P.faults port.new) }
     ensures after { AfterCall Accepted span.old span.new place.0 (level_pages level) result }
     ensures faults { P.faults port.old ≤ P.faults port.new }
@@ -90,7 +92,8 @@ fn try_call<P: Port>(
 /// Accepts the span's pending pages, run by run from the lowest: at each place 1 GiB is tried, then 2 MiB,
 /// then 4 KiB, as far as the place is aligned and enough pending pages are left. A call that isn't answered
 /// Ok falls to the next size; a 4 KiB call that isn't ends the work, and `Stopped` tells its page. It comes
-/// only where the port's count of faults rose (after the TDX guest's acceptance).
+/// only where the port's count of faults rose (after the TDX guest's acceptance). Of the room of the port and
+/// of the log, each call takes one place at most.
 pub fn accept_run<P: Port>(
     port: &mut P,
     span: &mut Span,
@@ -99,8 +102,14 @@ pub fn accept_run<P: Port>(
 ) -> RunEnd
     requires room { most_calls_of span.old.ticket.pages.count ≤ P.room port.old }
     requires log_room { most_calls_of span.old.ticket.pages.count ≤ log.old.room }
-    ensures calls { (calls : List ModuleCall) × (log.new.calls ≡ log.old.calls ++ calls) × (P.made port.new ≡ P.made port.old ++ calls)
+    ensures calls { (calls : List ModuleCall) × (log.new.calls ≡ log.old.calls ++ calls)
+        × (P.made port.new ≡ P.made port.old ++ calls)
         × Accepts hosts.now span.old span.new calls × (stop_of calls ≡ stopped_at result) }
+    ensures few { length (P.made port.new)
+        ≤ length (P.made port.old) + most_calls_of span.old.ticket.pages.count }
+    ensures room { KeepsRoom (P.made port.old) (P.made port.new)
+        (P.room port.old) (P.room port.new) }
+    ensures log_room { KeepsRoom log.old.calls log.new.calls log.old.room log.new.room }
     ensures stopped { stopped_at result ≢ None → Rose (P.faults port.old) (P.faults port.new) }
     ensures faults { P.faults port.old ≤ P.faults port.new }
     ensures never_fails { P.never_fails port.old → P.never_fails port.new }

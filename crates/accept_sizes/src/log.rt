@@ -1,5 +1,5 @@
 //! A record of module calls, with room taken ahead.
-ghost use Rattle.std.specs.Prelude.{◌≡◌, [], ◌∷◌, ◌++◌, ◌+◌, ◌-◌, ◌<◌, ◌≤◌, IfOk, vec_len, vec_capacity};
+ghost use Rattle.std.specs.Prelude.{◌≡◌, [], ◌∷◌, ◌++◌, ◌+◌, ◌<◌, ◌≤◌, IfOk};
 
 use event_core::{Calls, ModuleCall};
 use guest_base::Items;
@@ -18,11 +18,14 @@ impl Model for CallLog {
 
     ghost Value = { Logged };
 
-    ghost view = { λ l. record { calls = l.calls.items; room = vec_capacity l.calls - vec_len l.calls } };
+    ghost view = { λ l. record {
+      calls = l.calls.items;
+      room = vec_capacity l.calls - vec_len l.calls;
+    } };
 }
 
 impl CallLog {
-    /// An empty log with room for so many calls.
+    /// An empty log with room for this many calls.
     pub fn with_room(alloc: Global, calls: u64) -> Result<CallLog, AllocError>
         ensures { IfOk result (λ log. (log.calls ≡ []) × (calls ≤ log.room)) }
     {
@@ -37,7 +40,7 @@ impl CallLog {
         ensures calls { self.new.calls ≡ self.old.calls ++ call ∷ [] }
         ensures room { self.old.room ≤ self.new.room + 1 }
     {
-        push_within(&mut self.calls, call);
+        self.calls.push_reserved(call);
     }
 
     /// The calls.
@@ -47,13 +50,4 @@ impl CallLog {
         let CallLog { calls } = self;
         Items::from_vec(calls)
     }
-}
-
-fn push_within(calls: &mut Vec<ModuleCall>, call: ModuleCall)
-    requires { vec_len calls.old < vec_capacity calls.old }
-    ensures items { calls.new.items ≡ calls.old.items ++ call ∷ [] }
-    ensures len { vec_len calls.new ≡ vec_len calls.old + 1 }
-    ensures capacity { vec_capacity calls.old ≤ vec_capacity calls.new }
-{
-    let _ = calls.push(call);
 }

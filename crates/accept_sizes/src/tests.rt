@@ -1,4 +1,6 @@
-ghost use Rattle.std.specs.Prelude.{◌≡◌, ◌+◌, ◌^◌, ◌<◌, ◌≤◌, IfOk};
+ghost use Rattle.std.specs.Prelude.{◌≡◌, ◌<◌, ◌≤◌, IfOk};
+ghost use Rattle.guest_base.specs.declared.limits.TheConstants.{PAGE_END};
+ghost use Rattle.event_core.specs.Cut.{pages_end};
 
 use crate::{CallLog, RunEnd, accept_run, most_calls};
 use event_core::{CallKind, Calls, Hosts, ModuleCall, PortAnswer, Runs};
@@ -10,7 +12,7 @@ use std::test::Fail;
 /// A span of these pages, all of them Pending.
 fn pending_span(alloc: Global, pages: Pages) -> Result<Span, AllocError>
     requires some { 0 < pages.count }
-    requires end { pages.first + pages.count ≤ 2 ^ 28 }
+    requires end { pages_end pages ≤ PAGE_END }
     ensures { IfOk result (λ span. span.ticket.pages ≡ pages) }
 {
     let mut runs = Runs::new(alloc);
@@ -28,7 +30,6 @@ fn accept(
     span: &mut Span,
     hosts: &Hosts,
 ) -> Result<(RunEnd, Calls), AllocError>
-    requires { span.old.ticket.pages.count ≤ 2 ^ 28 }
     ensures { span.new.ticket ≡ span.old.ticket }
 {
     let calls = most_calls(span.pages().count);

@@ -2,29 +2,37 @@ use Rattle.std.specs.Prelude.{ℕ, List, Option, None, Some, ◌≡◌, ◌<◌,
 use Rattle.guest_base.specs.Ranges.{InRange}
 use Rattle.guest_base.specs.declared.memory.Units.{Units}
 
--- The ranges of units that processors accept at this time, by processor: the place of a range in the list is its processor's
--- number (after the accepting_list of Linux's unaccepted_memory.c).
+-- The claims of the processors that accept units at this time: the place of a claim in the list is
+-- its processor's number (after the accepting_list of Linux's unaccepted_memory.c). Which units a
+-- claim has is given by a function.
 
--- the range of a processor
-abbrev pub range_of : List (Option Units) → ℕ → Option Units
-range_of ranges cpu = slice_index_or ranges cpu None
+-- the claim of a processor
+abbrev pub kept_of : {T : Type 0} → List (Option T) → ℕ → Option T
+kept_of claims cpu = slice_index_or claims cpu None
 
 -- two ranges have a unit in common
 abbrev pub Meet : Units → Units → Type 0
 Meet a b = (unit : ℕ) × InRange a.first a.count unit × InRange b.first b.count unit
 
--- no processor's range meets the units
-abbrev pub MeetsNone : List (Option Units) → Units → Type 0
-MeetsNone ranges units = (cpu : ℕ) (range : Units) → range_of ranges cpu ≡ Some range → ¬ Meet range units
+-- no processor's claim meets the range
+abbrev pub MeetsNone : {T : Type 0} → (T → Units) → List (Option T) → Units → Type 0
+MeetsNone {T} units claims range =
+    (cpu : ℕ) (claim : T) → kept_of claims cpu ≡ Some claim → ¬ Meet (units claim) range
 
--- a range that meets the units is the first that does, in order of processors
-pub record IsFirstToMeet (ranges : List (Option Units)) (units range : Units) : Type 0 where
+-- the units of the first claim, in order of processors, that meets the range
+pub record IsFirstToMeet {T : Type 0} (units : T → Units) (claims : List (Option T))
+    (range met : Units) : Type 0 where
   pub cpu : ℕ
-  pub held : range_of ranges cpu ≡ Some range
-  pub meets : Meet range units
-  pub before : (other : ℕ) (earlier : Units) → other < cpu → range_of ranges other ≡ Some earlier → ¬ Meet earlier units
+  pub claim : T
+  pub held : kept_of claims cpu ≡ Some claim
+  pub same : units claim ≡ met
+  pub meets : Meet met range
+  pub before : (other : ℕ) (earlier : T) → other < cpu → kept_of claims other ≡ Some earlier
+      → ¬ Meet (units earlier) range
 
--- there are places for 64 processors, and no two of them have ranges that meet
-pub record AreApart (ranges : List (Option Units)) : Type 0 where
-  pub places : length ranges ≡ 64
-  pub apart : (cpu other : ℕ) (range range2 : Units) → cpu ≢ other → range_of ranges cpu ≡ Some range → range_of ranges other ≡ Some range2 → ¬ Meet range range2
+-- there are places for 64 processors, and no two of them have claims that meet
+pub record AreApart {T : Type 0} (units : T → Units) (claims : List (Option T)) : Type 0 where
+  pub places : length claims ≡ 64
+  pub apart : (cpu other : ℕ) (a b : T) → cpu ≢ other
+      → kept_of claims cpu ≡ Some a → kept_of claims other ≡ Some b
+      → ¬ Meet (units a) (units b)

@@ -1,7 +1,8 @@
-//! The ranges that are being accepted.
-ghost use Rattle.std.specs.Prelude.{◌≡◌, ℕ, ◌<◌, ◌==◌, None, Some, Option, IsSome, IfSome, IfNone, length, slice_set, if◌then◌else◌};
+//! The units that are being accepted.
+ghost use Rattle.std.specs.Prelude.{◌≡◌, ℕ, ◌<◌, None, Some, Option, IsSome, IfSome, IfNone, length, replicate, slice_set};
+ghost use Rattle.std.specs.Option.{option_map};
 ghost use Rattle.guest_base.specs.declared.memory.Units.{Units};
-ghost use Rattle.accepting_ranges.specs.Claims.{range_of, MeetsNone, IsFirstToMeet, AreApart};
+ghost use Rattle.accepting_ranges.specs.Claims.{kept_of, MeetsNone, IsFirstToMeet, AreApart};
 
 use arrayvec::ArrayVec;
 use guest_base::{CpuNo, Units};
@@ -10,98 +11,119 @@ use std::marker::Model;
 /// The places of the processors.
 const PLACES: usize = 64;
 
-/// The ranges of units that are being accepted while the memory lock is free: at most one per processor, and no two meet
+/// What a processor keeps while it accepts units.
+pub trait Claim: Drop {
+    ghost units: { Self → Units };
+
+    /// The units that are being accepted.
+    fn units(&self) -> Units
+        ensures { result ≡ units self.now };
+}
+
+/// The claims of the processors that accept units while the memory lock is free: at most one per processor, and no two meet
 /// (after the accepting list of Linux's `unaccepted_memory.c`).
 ///
-/// Contracts see the list of the processors' ranges, in order of their numbers.
-#[derive(Debug, Drop)]
-pub struct Accepting {
-    ranges: ArrayVec<Option<Units>, PLACES>,
+/// Contracts see the list of the processors' claims, in order of their numbers.
+#[derive(Drop)]
+pub struct Accepting<T: Claim> {
+    claims: ArrayVec<Option<T>, PLACES>,
 }
 
-impl Model for Accepting {
+impl<T: Claim> Model for Accepting<T> {
     ghost use Rattle.std.specs.Prelude.{List, Option};
-    ghost use Rattle.guest_base.specs.declared.memory.Units.{Units};
+    ghost use Rattle.std.specs.Coded.{coded_list, coded_option};
     ghost use Rattle.accepting_ranges.specs.Claims.{AreApart};
 
-    ghost Value = { List (Option Units) };
+    ghost Value = { List (Option T) };
 
-    ghost view = { λ a. a.ranges.items };
+    ghost coded = { coded_list (coded_option T.code) };
 
-    ghost invariant = { λ a. AreApart a.ranges.items };
+    ghost view = { λ a. a.claims.items };
+
+    ghost invariant = { λ a. AreApart T.units a.claims.items };
 }
 
-impl Accepting {
-    /// No processor has a range.
-    pub fn new() -> Accepting
-        ensures { (cpu : ℕ) → range_of result cpu ≡ None }
+impl<T: Claim> Accepting<T> {
+    /// No processor has a claim.
+    pub fn new() -> Accepting<T>
+        ensures { result ≡ replicate 64 None }
     {
-        let mut ranges = ArrayVec::new();
+        let mut claims = ArrayVec::new();
         for _ in 0..PLACES {
-            ranges.push(None);
+            claims.push(None);
         }
-        Accepting { ranges }
+        Accepting { claims }
     }
 
-    /// The range of a processor.
+    /// The units of a processor's claim.
     pub fn range(&self, cpu: CpuNo) -> Option<Units>
-        ensures { result ≡ range_of self.now cpu.0 }
+        ensures { result ≡ option_map T.units (kept_of self.now cpu.0) }
     {
-        self.ranges
-            .as_slice()
-            .get(cpu.0 as usize)
-            .copied()
-            .unwrap_or(None)
+        match self.claims.as_slice().get(cpu.0 as usize) {
+            Some(Some(claim)) => Some(claim.units()),
+            _ => None,
+        }
     }
 
-    /// The first range, in order of processors, that meets the units.
-    pub fn overlaps(&self, units: Units) -> Option<Units>
-        ensures some { IfSome result (IsFirstToMeet self.now units) }
-        ensures none { IfNone result (MeetsNone self.now units) }
-        ensures apart { AreApart self.now }
+    /// The units of the first claim, in order of processors, that meets a range.
+    pub fn overlaps(&self, range: Units) -> Option<Units>
+        ensures some { IfSome result (IsFirstToMeet T.units self.now range) }
+        ensures none { IfNone result (MeetsNone T.units self.now range) }
+        ensures apart { AreApart T.units self.now }
     {
-        first_to_meet(self.ranges.as_slice(), units)
+        first_to_meet(self.claims.as_slice(), range)
     }
 
-    /// Gives a processor a range. Every other processor keeps its own.
-    pub fn add(&mut self, cpu: CpuNo, units: Units)
+    /// Gives a processor a claim, which meets no other.
+    pub fn add(&mut self, cpu: CpuNo, claim: T)
         requires cpu { cpu.0 < 64 }
-        requires free { range_of self.old cpu.0 ≡ None }
-        requires apart { MeetsNone self.old units }
-        ensures { (other : ℕ) → range_of self.new other ≡ (if other == cpu.0 then Some units else range_of self.old other) }
+        requires free { kept_of self.old cpu.0 ≡ None }
+        requires apart { MeetsNone T.units self.old (T.units claim) }
+        ensures { self.new ≡ slice_set self.old cpu.0 (Some claim) }
     {
-        put(self.ranges.as_mut_slice(), cpu, Some(units));
+        put(self.claims.as_mut_slice(), cpu, Some(claim));
     }
 
-    /// Takes a processor's range away. Every other processor keeps its own.
-    pub fn remove(&mut self, cpu: CpuNo) -> Units
-        requires { IsSome (range_of self.old cpu.0) }
-        ensures taken { range_of self.old cpu.0 ≡ Some result }
-        ensures rest { (other : ℕ) → range_of self.new other ≡ (if other == cpu.0 then None else range_of self.old other) }
+    /// Takes a processor's claim away. None of those that stay meets it.
+    pub fn remove(&mut self, cpu: CpuNo) -> T
+        requires { IsSome (kept_of self.old cpu.0) }
+        ensures taken { kept_of self.old cpu.0 ≡ Some result }
+        ensures rest { self.new ≡ slice_set self.old cpu.0 None }
+        ensures apart { MeetsNone T.units self.new (T.units result) }
     {
-        let range = self.range(cpu);
-        put(self.ranges.as_mut_slice(), cpu, None);
-        range.unwrap()
+        take(self.claims.as_mut_slice(), cpu)
     }
 }
 
-fn first_to_meet(ranges: &[Option<Units>], units: Units) -> Option<Units>
-    ensures some { IfSome result (IsFirstToMeet ranges.now units) }
-    ensures none { IfNone result (MeetsNone ranges.now units) }
+fn first_to_meet<T: Claim>(claims: &[Option<T>], range: Units) -> Option<Units>
+    ensures some { IfSome result (IsFirstToMeet T.units claims.now range) }
+    ensures none { IfNone result (MeetsNone T.units claims.now range) }
 {
-    for range in ranges {
-        if let Some(range) = range
-            && range.meets(units)
-        {
-            return Some(*range);
+    for claim in claims {
+        if let Some(claim) = claim {
+            let units = claim.units();
+            if units.meets(range) {
+                return Some(units);
+            }
         }
     }
     None
 }
 
-fn put(ranges: &mut [Option<Units>], cpu: CpuNo, range: Option<Units>)
-    requires { cpu.0 < length ranges.old }
-    ensures { ranges.new ≡ slice_set ranges.old cpu.0 range }
+fn put<T: Claim>(claims: &mut [Option<T>], cpu: CpuNo, claim: Option<T>)
+    requires { cpu.0 < length claims.old }
+    ensures { claims.new ≡ slice_set claims.old cpu.0 claim }
 {
-    ranges[cpu.0 as usize] = range;
+    claims[cpu.0 as usize] = claim;
+}
+
+fn take<T: Claim>(claims: &mut [Option<T>], cpu: CpuNo) -> T
+    requires { IsSome (kept_of claims.old cpu.0) }
+    ensures taken { kept_of claims.old cpu.0 ≡ Some result }
+    ensures rest { claims.new ≡ slice_set claims.old cpu.0 None }
+{
+    match claims[cpu.0 as usize].take() {
+        Some(claim) => claim,
+        None => unreachable!(),
+    }
 }

@@ -1,9 +1,9 @@
-//! The ranges of units that processors accept at this time.
+//! The claims of the processors that accept units at this time.
 #![tactic(auto)]
 
 mod accepting;
 
-pub use accepting::Accepting;
+pub use accepting::{Accepting, Claim};
 
 #[cfg(test)]
 mod tests;

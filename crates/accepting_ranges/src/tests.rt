@@ -1,23 +1,37 @@
-use crate::Accepting;
+use crate::{Accepting, Claim};
 use guest_base::{CpuNo, Units};
 
-/// Gives a processor a range, unless it has one or the range meets another's.
-fn admit(accepting: &mut Accepting, cpu: u32, first: u64, count: u64) -> bool {
+/// A claim of units alone.
+#[derive(Drop)]
+struct Claimed {
+    units: Units,
+}
+
+impl Claim for Claimed {
+    ghost units = { λ claimed. claimed.units };
+
+    fn units(&self) -> Units {
+        self.units
+    }
+}
+
+/// Gives a processor a claim, unless it has one or the claim meets another's.
+fn admit(accepting: &mut Accepting<Claimed>, cpu: u32, first: u64, count: u64) -> bool {
     let units = Units { first, count };
     let free = cpu < 64 && accepting.range(CpuNo(cpu)).is_none();
     let apart = accepting.overlaps(units).is_none();
     if free && apart {
-        accepting.add(CpuNo(cpu), units);
+        accepting.add(CpuNo(cpu), Claimed { units });
     }
     free && apart
 }
 
-/// Takes a processor's range away, where it has one.
-fn leave(accepting: &mut Accepting, cpu: u32) -> Option<Units> {
+/// Takes a processor's claim away, where it has one.
+fn leave(accepting: &mut Accepting<Claimed>, cpu: u32) -> Option<Units> {
     if accepting.range(CpuNo(cpu)).is_none() {
         return None;
     }
-    Some(accepting.remove(CpuNo(cpu)))
+    Some(accepting.remove(CpuNo(cpu)).units)
 }
 
 fn units(first: u64, count: u64) -> Option<Units> {

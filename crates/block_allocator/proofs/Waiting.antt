@@ -1,4 +1,4 @@
-use Rattle.std.proofs.Common.{◌≡◌, ℕ, ◌+◌, ◌*◌, ◌/◌, ◌%◌, ◌^◌, ◌<◌, ◌≤◌, ◌&&◌, ◌||◌, Bool, true, false, not, eqb, List, length, get_or, sym, ap, ◌∙◌, refl, inl, inr, arith}
+use Rattle.std.proofs.Common.{◌≡◌, ℕ, ◌+◌, ◌*◌, ◌/◌, ◌%◌, ◌^◌, ◌<◌, ◌≤◌, ◌&&◌, ◌||◌, Bool, true, false, not, eqb, List, length, get_or, sym, ap, subst, ◌∙◌, refl, inl, inr, arith}
 use Rattle.std.specs.List.{list_any}
 use Rattle.std.proofs.lemmas.Bool.{and_from, eqb-true, eq-eqb, cases_order, false_from_ne_true, false≢true, or_from, or_cases}
 use Rattle.std.proofs.lemmas.List.{get_or_default}
@@ -7,7 +7,7 @@ use Rattle.guest_base.specs.Ranges.{InRange, in_range}
 use Rattle.guest_base.specs.declared.memory.Block.{Block}
 use Rattle.block_allocator.specs.declared.buddy_block.BuddyBlock.{BuddyBlock}
 use Rattle.block_allocator.specs.Kept.{rank, Rises, is_numbered, holds_page, kept, covers, Buddies, Beside}
-use Rattle.block_allocator.specs.State.{State, IsSound, waits}
+use Rattle.block_allocator.specs.State.{State, IsSound, Apart, waits, page_waits}
 use Rattle.block_allocator.proofs.Merging.{Added, kept_more, kept_cases}
 use Rattle.block_allocator.proofs.Pages.{in_block, in_range_is, aligned_first}
 use Rattle.block_allocator.proofs.Picking.{without}
@@ -27,6 +27,14 @@ member ws i y within is =
 
 pub member_form : (ws : List BuddyBlock) → Form ws → (i : ℕ) (y : BuddyBlock) → i < length ws → get_or ws i y ≡ y → (y.order ≡ 10) × ((y.number + 1) * 2 ^ 10 ≤ 2 ^ 28)
 member_form ws form i y within is = form y.order y.number (member ws i y within is)
+
+-- the first block of a list of waiting ones: it stands there, and has the form of one
+pub first_form : (ws items : List BuddyBlock) → Form ws → (y : BuddyBlock) → items ≡ ws → y ≡ get_or items 0 y → 0 < length items → (0 < length ws) × (y ≡ get_or ws 0 y) × (y.order ≡ 10) × ((y.number + 1) * 2 ^ y.order ≤ 2 ^ 28)
+first_form ws items form y same is within =
+    let some : 0 < length ws = omega (arith, ap length same) in
+    let read : y ≡ get_or ws 0 y = is ∙ ap (λ l. get_or l 0 y) same in
+    let has = member_form ws form 0 y some (sym read) in
+    (some, read, has.0, omega (arith, ap (λ o. (y.number + 1) * 2 ^ o) has.0, has.1))
 
 -- where a block of order 10 begins
 start : (y : BuddyBlock) → y.order ≡ 10 → y.number * 2 ^ y.order ≡ y.number * 1024
@@ -53,6 +61,24 @@ waiting_page ws form page is =
     let same : page / 1024 ≡ y.number = sym (ap (λ o. page / 2 ^ o) order) ∙ number in
     let at = start y order in
     list_any_at (begins (page / 2 ^ 10 * 2 ^ 10)) ws any.0 y any.2 (ap (begins (page / 2 ^ 10 * 2 ^ 10)) any.3 ∙ eq-eqb _ _ (omega arith))
+
+-- and a page behind a page where one begins is a waiting block's
+page_behind : (ws : List BuddyBlock) → Form ws → (page : ℕ) → list_any (begins (page / 2 ^ 10 * 2 ^ 10)) ws ≡ true → covers ws page ≡ true
+page_behind ws form page is =
+    let any = Any-from_list_any (begins (page / 2 ^ 10 * 2 ^ 10)) ws is in
+    let z = any.1 in
+    let order = (member_form ws form any.0 z any.2 any.3).0 in
+    let first = eqb-true (z.number * 2 ^ z.order) (page / 2 ^ 10 * 2 ^ 10) any.4 in
+    let at = start z order in
+    let same : page / 2 ^ z.order ≡ page / 1024 = ap (λ o. page / 2 ^ o) order in
+    list_any_at (holds_page page) ws any.0 z any.2 (ap (holds_page page) any.3 ∙ eq-eqb (page / 2 ^ z.order) z.number (omega arith))
+
+-- what is kept soundly keeps the free and the waiting pages of the value that it is seen as apart
+pub apart_of : (v w : State) → v ≡ w → IsSound v.free v.waiting → Apart w
+apart_of v w same sound = subst Apart same (record {
+  pages = λ page is. false_from_ne_true (page_waits v page)
+      (λ behind. false≢true (sym (sound.apart page is) ∙ page_behind v.waiting sound.waiting_form page behind));
+})
 
 pub not_waiting : (ws : List BuddyBlock) → Form ws → (page : ℕ) → list_any (begins (page / 2 ^ 10 * 2 ^ 10)) ws ≡ false → covers ws page ≡ false
 not_waiting ws form page none = false_from_ne_true (covers ws page) (λ is. false≢true (sym none ∙ waiting_page ws form page is))
@@ -158,15 +184,3 @@ seen_lowest v w same y first first_is lowest = (
   sym (ap (λ s. waits s (y.number * 2 ^ y.order)) same ∙ ap (waits w) (sym first_is)) ∙ lowest.0,
   λ other is. omega (arith, lowest.1 other (ap (λ s. waits s other) same ∙ is)),
 )
-
--- a block of order 10 none of whose pages is covered is beside the kept ones
-pub beside_of_order : (xs : List BuddyBlock) → Buddies (kept xs) → (block : Block) (b : BuddyBlock) → b ≡ record { order = block.order; number = block.first / 2 ^ block.order } → block.order ≡ 10 → block.first % 2 ^ 10 ≡ 0 → block.first + 2 ^ 10 ≤ 2 ^ 28 → ((page : ℕ) → InRange block.first (2 ^ 10) page → covers xs page ≡ false) → Beside xs b
-beside_of_order xs buddies block b is order aligned end free =
-    let size : 2 ^ block.order ≡ 1024 = ap (λ o. 2 ^ o) order in
-    beside_from xs buddies block b is (omega arith) (ap (λ s. block.first % s) size ∙ aligned) (omega arith)
-    (λ page inside. free page (omega (arith, inside.0), omega (arith, inside.1)))
-
--- a block of order 10 none of whose pages waits is beside the waiting ones
-pub beside_waiting : (ws : List BuddyBlock) → Form ws → (block : Block) (b : BuddyBlock) → b ≡ record { order = block.order; number = block.first / 2 ^ block.order } → block.order ≡ 10 → block.first % 2 ^ 10 ≡ 0 → block.first + 2 ^ 10 ≤ 2 ^ 28 → ((page : ℕ) → InRange block.first (2 ^ 10) page → list_any (begins (page / 2 ^ 10 * 2 ^ 10)) ws ≡ false) → Beside ws b
-beside_waiting ws form block b is order aligned end none =
-    beside_of_order ws (waiting_buddies ws form) block b is order aligned end (λ page inside. not_waiting ws form page (none page inside))

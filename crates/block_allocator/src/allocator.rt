@@ -1,8 +1,8 @@
 //! Splitting and merging of free blocks.
-ghost use Rattle.std.specs.Prelude.{◌≡◌, ◌≢◌, ℕ, ◌+◌, ◌-◌, ◌*◌, ◌/◌, ◌^◌, ◌<◌, ◌≤◌, ◌%◌, ◌&&◌, ◌||◌, not, true, false, vec_len, vec_capacity, IfSome, IfNone};
+ghost use Rattle.std.specs.Prelude.{◌≡◌, ◌≢◌, ℕ, ◌+◌, ◌-◌, ◌*◌, ◌/◌, ◌^◌, ◌<◌, ◌≤◌, ◌||◌, false, vec_len, vec_capacity, IfSome, IfNone};
 ghost use Rattle.guest_base.specs.Blocks.{pick};
-ghost use Rattle.guest_base.specs.Ranges.{InRange, in_range};
 ghost use Rattle.block_allocator.specs.Kept.{Rises, Buddies, Beside, kept, covers, holds_page};
+ghost use Rattle.block_allocator.specs.State.{IsBlock, Takes};
 
 use crate::buddy_block::{BuddyBlock, block_of, buddy_of, lower_half, merged, upper_half};
 use crate::sorted::{place_of, put, take_at, take_out};
@@ -18,10 +18,12 @@ pub fn take_block(free: &mut Vec<BuddyBlock>, order: u32) -> Option<Block>
     ensures rises { Rises free.new.items }
     ensures buddies { Buddies (kept free.new.items) }
     ensures picked { result ≡ pick (covers free.old.items) order }
-    ensures block { IfSome result (λ block. (block.order ≡ order) × (block.first % 2 ^ order ≡ 0) × (block.first + 2 ^ order ≤ 2 ^ 28)) }
-    ensures pages { IfSome result (λ block. ((page : ℕ) → InRange block.first (2 ^ order) page → covers free.old.items page ≡ true) × ((page : ℕ) → covers free.new.items page ≡ (covers free.old.items page && not (in_range block.first (2 ^ order) page)))) }
-    ensures none { IfNone result (free.new.items ≡ free.old.items) }
-    ensures room { vec_len free.new + vec_capacity free.old ≤ vec_len free.old + vec_capacity free.new + 10 }
+    ensures block { IfSome result (IsBlock order) }
+    ensures pages { IfSome result (λ block.
+        Takes order block (covers free.old.items) (covers free.new.items)) }
+    ensures none { IfNone result (free.new ≡ free.old) }
+    ensures room { vec_len free.new + vec_capacity free.old
+        ≤ vec_len free.old + vec_capacity free.new + 10 }
 {
     let place = place_of(free.as_slice(), BuddyBlock { order, number: 0 });
     if place == free.len() {
@@ -42,7 +44,8 @@ fn split_down(free: &mut Vec<BuddyBlock>, block: BuddyBlock, order: u32) -> Budd
     ensures beside { Beside free.new.items result }
     ensures order { result.order ≡ order }
     ensures lowest { result.number * 2 ^ result.order ≡ block.number * 2 ^ block.order }
-    ensures pages { (page : ℕ) → (covers free.new.items page || holds_page page result) ≡ (covers free.old.items page || holds_page page block) }
+    ensures pages { (page : ℕ) → (covers free.new.items page || holds_page page result)
+        ≡ (covers free.old.items page || holds_page page block) }
     ensures len { vec_len free.new ≡ vec_len free.old + (block.order - order) }
     ensures capacity { vec_capacity free.old ≤ vec_capacity free.new }
 {
@@ -62,7 +65,8 @@ fn split(free: &mut Vec<BuddyBlock>, block: BuddyBlock) -> BuddyBlock
     ensures rises { Rises free.new.items }
     ensures beside { Beside free.new.items result }
     ensures half { result ≡ record { order = block.order - 1; number = 2 * block.number } }
-    ensures pages { (page : ℕ) → (covers free.new.items page || holds_page page result) ≡ (covers free.old.items page || holds_page page block) }
+    ensures pages { (page : ℕ) → (covers free.new.items page || holds_page page result)
+        ≡ (covers free.old.items page || holds_page page block) }
     ensures len { vec_len free.new ≡ vec_len free.old + 1 }
     ensures capacity { vec_capacity free.old ≤ vec_capacity free.new }
 {
@@ -77,8 +81,10 @@ pub fn free_block(free: &mut Vec<BuddyBlock>, block: BuddyBlock)
     requires room { vec_len free.old < vec_capacity free.old }
     ensures rises { Rises free.new.items }
     ensures buddies { Buddies (kept free.new.items) }
-    ensures pages { (page : ℕ) → covers free.new.items page ≡ (covers free.old.items page || holds_page page block) }
-    ensures room { vec_len free.new + vec_capacity free.old ≤ vec_len free.old + vec_capacity free.new + 1 }
+    ensures pages { (page : ℕ) → covers free.new.items page
+        ≡ (covers free.old.items page || holds_page page block) }
+    ensures room { vec_len free.new + vec_capacity free.old
+        ≤ vec_len free.old + vec_capacity free.new + 1 }
 {
     let mut block = block;
     while let Some(larger) = merge(free, block) {
@@ -92,8 +98,14 @@ fn merge(free: &mut Vec<BuddyBlock>, block: BuddyBlock) -> Option<BuddyBlock>
     requires rises { Rises free.old.items }
     requires beside { Beside free.old.items block }
     ensures rises { Rises free.new.items }
-    ensures some { IfSome result (λ larger. Beside free.new.items larger × (larger.order ≡ block.order + 1) × ((page : ℕ) → (covers free.new.items page || holds_page page larger) ≡ (covers free.old.items page || holds_page page block)) × (vec_len free.new + 1 ≡ vec_len free.old)) }
-    ensures none { IfNone result ((free.new.items ≡ free.old.items) × ((n : ℕ) → block.order < 10 → n / 2 ≡ block.number / 2 → n ≢ block.number → kept free.old.items block.order n ≡ false)) }
+    ensures some { IfSome result (λ larger. Beside free.new.items larger
+        × (larger.order ≡ block.order + 1)
+        × ((page : ℕ) → (covers free.new.items page || holds_page page larger)
+        ≡ (covers free.old.items page || holds_page page block))
+        × (vec_len free.new + 1 ≡ vec_len free.old)) }
+    ensures none { IfNone result ((free.new.items ≡ free.old.items)
+        × ((n : ℕ) → block.order < 10 → n / 2 ≡ block.number / 2 → n ≢ block.number
+        → kept free.old.items block.order n ≡ false)) }
     ensures len { vec_len free.new ≤ vec_len free.old }
     ensures capacity { vec_capacity free.new ≡ vec_capacity free.old }
 {

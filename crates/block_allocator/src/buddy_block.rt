@@ -26,7 +26,8 @@ pub fn numbered(block: Block) -> BuddyBlock
 pub fn block_of(numbered: BuddyBlock) -> Block
     requires order { numbered.order ≤ 10 }
     requires end { (numbered.number + 1) * 2 ^ numbered.order ≤ 2 ^ 28 }
-    ensures { result ≡ record { first = numbered.number * 2 ^ numbered.order; order = numbered.order } }
+    ensures { result
+        ≡ record { first = numbered.number * 2 ^ numbered.order; order = numbered.order } }
 {
     Block {
         first: numbered.number * pages_of(numbered.order),

@@ -10,8 +10,10 @@ use crate::buddy_block::{BuddyBlock, is_before};
 pub fn place_of(list: &[BuddyBlock], block: BuddyBlock) -> usize
     requires { Rises list.now }
     ensures within { result ≤ length list.now }
-    ensures before { (k : ℕ) (d : BuddyBlock) → k < result → rank (slice_index_or list.now k d) < rank block }
-    ensures after { (k : ℕ) (d : BuddyBlock) → result ≤ k → k < length list.now → rank block ≤ rank (slice_index_or list.now k d) }
+    ensures before { (k : ℕ) (d : BuddyBlock) → k < result
+        → rank (slice_index_or list.now k d) < rank block }
+    ensures after { (k : ℕ) (d : BuddyBlock) → result ≤ k → k < length list.now
+        → rank block ≤ rank (slice_index_or list.now k d) }
 {
     list.partition_point(|kept| is_before(*kept, block))
 }
@@ -22,7 +24,8 @@ pub fn put(list: &mut Vec<BuddyBlock>, block: BuddyBlock)
     requires absent { list_any (λ kept. rank kept == rank block) list.old.items ≡ false }
     requires room { vec_len list.old < vec_capacity list.old }
     ensures rises { Rises list.new.items }
-    ensures added { (test : BuddyBlock → Bool) → list_any test list.new.items ≡ (list_any test list.old.items || test block) }
+    ensures added { (test : BuddyBlock → Bool) → list_any test list.new.items
+        ≡ (list_any test list.old.items || test block) }
     ensures len { vec_len list.new ≡ vec_len list.old + 1 }
     ensures capacity { vec_capacity list.old ≤ vec_capacity list.new }
 {
@@ -46,9 +49,14 @@ pub fn take_out(list: &mut Vec<BuddyBlock>, block: BuddyBlock) -> bool
     requires { Rises list.old.items }
     ensures rises { Rises list.new.items }
     ensures found { result ≡ list_any (is_numbered block.order block.number) list.old.items }
-    ensures removed { MatchBool result ((test : BuddyBlock → Bool) → list_any test list.old.items ≡ (list_any test list.new.items || test block)) (list.new.items ≡ list.old.items) }
+    ensures removed { MatchBool result
+        ((test : BuddyBlock → Bool) → list_any test list.old.items
+        ≡ (list_any test list.new.items || test block))
+        (list.new.items ≡ list.old.items) }
     ensures gone { list_any (is_numbered block.order block.number) list.new.items ≡ false }
-    ensures len { MatchBool result (vec_len list.new + 1 ≡ vec_len list.old) (vec_len list.new ≡ vec_len list.old) }
+    ensures len { MatchBool result
+        (vec_len list.new + 1 ≡ vec_len list.old)
+        (vec_len list.new ≡ vec_len list.old) }
     ensures capacity { vec_capacity list.new ≡ vec_capacity list.old }
 {
     let place = place_of(list.as_slice(), block);
@@ -65,7 +73,8 @@ pub fn take_at(list: &mut Vec<BuddyBlock>, place: usize) -> BuddyBlock
     requires place { place < vec_len list.old }
     ensures block { result ≡ slice_index_or list.old.items place result }
     ensures rises { Rises list.new.items }
-    ensures removed { (test : BuddyBlock → Bool) → list_any test list.old.items ≡ (list_any test list.new.items || test result) }
+    ensures removed { (test : BuddyBlock → Bool) → list_any test list.old.items
+        ≡ (list_any test list.new.items || test result) }
     ensures gone { list_any (is_numbered result.order result.number) list.new.items ≡ false }
     ensures len { vec_len list.new + 1 ≡ vec_len list.old }
     ensures capacity { vec_capacity list.new ≡ vec_capacity list.old }

@@ -1,8 +1,8 @@
 //! The free blocks and the waiting blocks.
-ghost use Rattle.std.specs.Prelude.{◌≡◌, ℕ, ◌+◌, ◌%◌, ◌^◌, ◌<◌, ◌≤◌, ◌==◌, ◌&&◌, ◌||◌, not, true, false, IfSome, IfNone, OnOk};
-ghost use Rattle.guest_base.specs.Ranges.{InRange, in_range};
+ghost use Rattle.std.specs.Prelude.{◌≡◌, ℕ, ◌+◌, ◌^◌, ◌≤◌, ◌==◌, ◌&&◌, ◌||◌, not, false, IfSome, IfNone, OnOk};
+ghost use Rattle.guest_base.specs.Ranges.{in_range};
 ghost use Rattle.guest_base.specs.Blocks.{pick};
-ghost use Rattle.block_allocator.specs.State.{is_free, waits, page_waits};
+ghost use Rattle.block_allocator.specs.State.{is_free, waits, Apart, IsBlock, IsLowestWaiting, Takes, MayPut};
 
 use crate::allocator::{free_block, take_block};
 use crate::buddy_block::{BuddyBlock, block_of, numbered};
@@ -11,10 +11,13 @@ use guest_base::Block;
 use std::alloc::{AllocError, Global};
 use std::marker::Model;
 
-/// The free blocks of a guest, and the blocks of 1,024 pages that wait for their acceptance.
+/// The free blocks of a guest, and the blocks of 1,024 pages that wait for their acceptance. No page is both.
 ///
 /// The free blocks are at each moment the maximal aligned blocks, of order at most 10, made of free
 /// pages: what is freed merges, and what is taken splits (after the page allocator's buddies).
+///
+/// Its room is the number of blocks that can be put among the free ones, and as well among the waiting ones, with no
+/// further memory.
 #[derive(Debug, Drop)]
 pub struct Blocks {
     free: Vec<BuddyBlock>,
@@ -27,7 +30,12 @@ impl Model for Blocks {
 
     ghost Value = { State };
 
-    ghost view = { λ a. record { free = a.free.items; waiting = a.waiting.items; room = min (vec_capacity a.free - vec_len a.free) (vec_capacity a.waiting - vec_len a.waiting) } };
+    ghost view = { λ a. record {
+      free = a.free.items;
+      waiting = a.waiting.items;
+      room = min (vec_capacity a.free - vec_len a.free)
+          (vec_capacity a.waiting - vec_len a.waiting);
+    } };
 
     ghost invariant = { λ a. IsSound a.free.items a.waiting.items };
 }
@@ -44,7 +52,7 @@ impl Blocks {
         }
     }
 
-    /// Makes room for this many more blocks, free and waiting ones alike. `AllocError` is want of
+    /// Makes room for this many more blocks, free and waiting ones alike. `AllocError` is out of
     /// memory. Whatever the answer, nothing changes but the room, which may have grown.
     pub fn reserve(&mut self, _alloc: Global, blocks: u64) -> Result<(), AllocError>
         ensures ok { OnOk result (blocks ≤ self.new.room) }
@@ -58,16 +66,19 @@ impl Blocks {
 
     /// Takes a block of 2^`order` pages, `order` being at most 10: the lowest part of the lowest free
     /// block of the least order that suffices (own rule, after the page allocator). None exactly where
-    /// no free block of this order or above stands. It needs room for ten blocks, the parts that are
-    /// left of the block found.
+    /// no free block of this order or above stands, and then nothing changes, the room neither. It needs
+    /// room for ten blocks, the parts that are left of the block found.
+    #[tactic(auto, using(crate::proofs::Waiting::apart_of))]
     pub fn take(&mut self, order: u32) -> Option<Block>
         requires order { order ≤ 10 }
         requires room { 10 ≤ self.old.room }
         ensures picked { result ≡ pick (is_free self.old) order }
-        ensures block { IfSome result (λ block. (block.order ≡ order) × (block.first % 2 ^ order ≡ 0) × (block.first + 2 ^ order ≤ 2 ^ 28)) }
-        ensures pages { IfSome result (λ block. ((page : ℕ) → InRange block.first (2 ^ order) page → is_free self.old page ≡ true) × ((page : ℕ) → is_free self.new page ≡ (is_free self.old page && not (in_range block.first (2 ^ order) page)))) }
-        ensures none { IfNone result ((page : ℕ) → is_free self.new page ≡ is_free self.old page) }
+        ensures block { IfSome result (IsBlock order) }
+        ensures pages { IfSome result (λ block.
+            Takes order block (is_free self.old) (is_free self.new)) }
+        ensures none { IfNone result (self.new ≡ self.old) }
         ensures waiting { (first : ℕ) → waits self.new first ≡ waits self.old first }
+        ensures apart { Apart self.old }
         ensures room { self.old.room ≤ self.new.room + 10 }
     {
         take_block(&mut self.free, order)
@@ -76,13 +87,10 @@ impl Blocks {
     /// Frees a block of at most 1,024 pages, aligned to its size and below page 2^28, whose pages are
     /// neither free nor waiting. It merges with the free blocks. It needs room for one block.
     pub fn free(&mut self, block: Block)
-        requires order { block.order ≤ 10 }
-        requires aligned { block.first % 2 ^ block.order ≡ 0 }
-        requires end { block.first + 2 ^ block.order ≤ 2 ^ 28 }
-        requires not_free { (page : ℕ) → InRange block.first (2 ^ block.order) page → is_free self.old page ≡ false }
-        requires not_waiting { (page : ℕ) → InRange block.first (2 ^ block.order) page → page_waits self.old page ≡ false }
+        requires may { MayPut self.old block }
         requires room { 1 ≤ self.old.room }
-        ensures pages { (page : ℕ) → is_free self.new page ≡ (is_free self.old page || in_range block.first (2 ^ block.order) page) }
+        ensures pages { (page : ℕ) → is_free self.new page
+            ≡ (is_free self.old page || in_range block.first (2 ^ block.order) page) }
         ensures waiting { (first : ℕ) → waits self.new first ≡ waits self.old first }
         ensures room { self.old.room ≤ self.new.room + 1 }
     {
@@ -90,23 +98,29 @@ impl Blocks {
     }
 
     /// The waiting block with the lowest address. None exactly where none waits.
+    #[tactic(auto, using(crate::proofs::Waiting::apart_of))]
     pub fn peek_unaccepted(&self) -> Option<Block>
-        ensures block { IfSome result (λ block. (block.order ≡ 10) × (block.first % 2 ^ 10 ≡ 0) × (block.first + 2 ^ 10 ≤ 2 ^ 28)) }
-        ensures lowest { IfSome result (λ block. (waits self.now block.first ≡ true) × ((first : ℕ) → waits self.now first ≡ true → block.first ≤ first)) }
+        ensures block { IfSome result (IsBlock 10) }
+        ensures lowest { IfSome result (IsLowestWaiting self.now) }
         ensures none { IfNone result ((first : ℕ) → waits self.now first ≡ false) }
+        ensures apart { Apart self.now }
     {
         let lowest = *self.waiting.first()?;
         Some(block_of(lowest))
     }
 
     /// Takes the waiting block with the lowest address, which waits no longer. None exactly where
-    /// none waits.
+    /// none waits, and then nothing changes, the room neither.
+    #[tactic(auto, using(crate::proofs::Waiting::apart_of))]
     pub fn take_unaccepted(&mut self) -> Option<Block>
-        ensures block { IfSome result (λ block. (block.order ≡ 10) × (block.first % 2 ^ 10 ≡ 0) × (block.first + 2 ^ 10 ≤ 2 ^ 28)) }
-        ensures lowest { IfSome result (λ block. (waits self.old block.first ≡ true) × ((first : ℕ) → waits self.old first ≡ true → block.first ≤ first)) }
-        ensures others { IfSome result (λ block. (first : ℕ) → waits self.new first ≡ (waits self.old first && not (block.first == first))) }
-        ensures none { IfNone result ((first : ℕ) → (waits self.old first ≡ false) × (waits self.new first ≡ false)) }
+        ensures block { IfSome result (IsBlock 10) }
+        ensures lowest { IfSome result (IsLowestWaiting self.old) }
+        ensures others { IfSome result (λ block. (first : ℕ)
+            → waits self.new first ≡ (waits self.old first && not (block.first == first))) }
+        ensures none { IfNone result ((first : ℕ) → waits self.old first ≡ false) }
+        ensures unchanged { IfNone result (self.new ≡ self.old) }
         ensures free { (page : ℕ) → is_free self.new page ≡ is_free self.old page }
+        ensures apart { Apart self.old }
         ensures room { self.old.room ≤ self.new.room }
     {
         if self.waiting.is_empty() {
@@ -118,12 +132,10 @@ impl Blocks {
     /// Puts a block of 1,024 pages among the waiting ones, under the conditions of `free`.
     pub fn put_unaccepted(&mut self, block: Block)
         requires order { block.order ≡ 10 }
-        requires aligned { block.first % 2 ^ 10 ≡ 0 }
-        requires end { block.first + 2 ^ 10 ≤ 2 ^ 28 }
-        requires not_free { (page : ℕ) → InRange block.first (2 ^ 10) page → is_free self.old page ≡ false }
-        requires not_waiting { (page : ℕ) → InRange block.first (2 ^ 10) page → page_waits self.old page ≡ false }
+        requires may { MayPut self.old block }
         requires room { 1 ≤ self.old.room }
-        ensures waiting { (first : ℕ) → waits self.new first ≡ (waits self.old first || block.first == first) }
+        ensures waiting { (first : ℕ) → waits self.new first
+            ≡ (waits self.old first || block.first == first) }
         ensures free { (page : ℕ) → is_free self.new page ≡ is_free self.old page }
         ensures room { self.old.room ≤ self.new.room + 1 }
     {
@@ -132,13 +144,10 @@ impl Blocks {
 
     /// Frees a block that waited and was accepted, as `free` does.
     pub fn put_accepted(&mut self, block: Block)
-        requires order { block.order ≤ 10 }
-        requires aligned { block.first % 2 ^ block.order ≡ 0 }
-        requires end { block.first + 2 ^ block.order ≤ 2 ^ 28 }
-        requires not_free { (page : ℕ) → InRange block.first (2 ^ block.order) page → is_free self.old page ≡ false }
-        requires not_waiting { (page : ℕ) → InRange block.first (2 ^ block.order) page → page_waits self.old page ≡ false }
+        requires may { MayPut self.old block }
         requires room { 1 ≤ self.old.room }
-        ensures pages { (page : ℕ) → is_free self.new page ≡ (is_free self.old page || in_range block.first (2 ^ block.order) page) }
+        ensures pages { (page : ℕ) → is_free self.new page
+            ≡ (is_free self.old page || in_range block.first (2 ^ block.order) page) }
         ensures waiting { (first : ℕ) → waits self.new first ≡ waits self.old first }
         ensures room { self.old.room ≤ self.new.room + 1 }
     {

@@ -1,4 +1,5 @@
-ghost use Rattle.std.specs.Prelude.{◌≤◌, length, IfOk};
+ghost use Rattle.std.specs.Prelude.{◌≡◌, ◌≤◌, ℕ, length, IfOk};
+ghost use Rattle.block_allocator.specs.State.{is_free, waits};
 
 use crate::Blocks;
 use guest_base::Block;
@@ -8,11 +9,13 @@ use std::test::Fail;
 #[test]
 fn splits_and_merges(rt: HostRuntime) -> Result<(), Fail> {
     let mut blocks = Blocks::new(rt.alloc());
-    blocks.reserve(rt.alloc(), 11)?;
+    blocks.reserve(rt.alloc(), 12)?;
     blocks.free(Block {
         first: 1024,
         order: 10,
     });
+    take_and_free(&mut blocks);
+    blocks.reserve(rt.alloc(), 11)?;
     let page = blocks.take(0).ok_or("no page")?;
     assert_eq!(rt; page.first, 1024);
     blocks.reserve(rt.alloc(), 11)?;
@@ -43,6 +46,17 @@ fn waits_in_order(rt: HostRuntime) -> Result<(), Fail> {
     });
     assert_eq!(rt; blocks.take_unaccepted().ok_or("none waits")?.first, 2048);
     Ok(())
+}
+
+/// Takes a page and frees it again: what `take` says is what `free` asks for, whatever is free or waits.
+fn take_and_free(blocks: &mut Blocks)
+    requires { 11 ≤ blocks.old.room }
+    ensures free { (page : ℕ) → is_free blocks.new page ≡ is_free blocks.old page }
+    ensures waiting { (first : ℕ) → waits blocks.new first ≡ waits blocks.old first }
+{
+    if let Some(page) = blocks.take(0) {
+        blocks.free(page);
+    }
 }
 
 /// Whether these pages are free, by a look at each.

@@ -4,7 +4,7 @@
 ghost use Rattle.std.specs.Prelude.{◌≡◌, ◌≤◌, ◌+◌, length};
 ghost use Rattle.guest_base.specs.Parts.{part_of, with_part};
 
-/// Writes `bytes` into the pool from the place `at` on, and nothing else.
+/// Writes `bytes` into the pool from its byte `at` on, counted from 0, and nothing else.
 pub fn part_in(pool: &mut [u8], at: usize, bytes: &[u8])
     requires { at + length bytes.now ≤ length pool.old }
     ensures { pool.new ≡ with_part pool.old at bytes.now }
@@ -12,7 +12,7 @@ pub fn part_in(pool: &mut [u8], at: usize, bytes: &[u8])
     pool[at..at + bytes.len()].copy_from_slice(bytes);
 }
 
-/// Fills `out` with the pool's bytes from the place `at` on.
+/// Fills `out` with the pool's bytes from its byte `at` on, counted from 0.
 pub fn part_out(pool: &[u8], at: usize, out: &mut [u8])
     requires { at + length out.old ≤ length pool.now }
     ensures { out.new ≡ part_of pool.now at (length out.old) }

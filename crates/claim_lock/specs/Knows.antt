@@ -25,7 +25,8 @@ module _ {S : Type 0} (fixed : S → Fixed) (part : S → ℕ → Part) (moved :
     pub own_alone : made_by known.number (moved state) ≡ known.own
     pub named : All (λ (m : Moved). m.entry.cpu.0 < known.seats) (moved state)
 
-  -- while a processor held the state, it changed its own part alone, and added entries of its own at the end
+  -- while a processor held the state, it changed its own part alone, and added its own entries
+  -- at the end
   pub record MayGive (cpu : ℕ) (taken state : S) : Type 0 where
     pub same_fixed : fixed state ≡ fixed taken
     pub same_others : (other : ℕ) → other ≢ cpu → part state other ≡ part taken other
@@ -34,10 +35,23 @@ module _ {S : Type 0} (fixed : S → Fixed) (part : S → ℕ → Part) (moved :
 module _ {S : Type 0} (fixed : S → Fixed) (part : S → ℕ → Part) where
   -- a processor's part counts as left as it was handed in, and it has made and seen no entry
   abbrev pub first_known : ℕ → S → ℕ → Known
-  first_known seats state cpu = record { number = cpu; seats = seats; fixed = fixed state; part = part state cpu; own = []; seen = [] }
+  first_known seats state cpu = record {
+    number = cpu;
+    seats = seats;
+    fixed = fixed state;
+    part = part state cpu;
+    own = [];
+    seen = [];
+  }
 
 module _ {S : Type 0} (part : S → ℕ → Part) (moved : S → List Moved) where
   -- what a processor knows when it gives the state back: its part as it leaves it, and all entries
   abbrev pub left_known : Known → S → S → Known
-  left_known known taken state =
-      record { number = known.number; seats = known.seats; fixed = known.fixed; part = part state known.number; own = known.own ++ added (moved taken) (moved state); seen = moved state }
+  left_known known taken state = record {
+    number = known.number;
+    seats = known.seats;
+    fixed = known.fixed;
+    part = part state known.number;
+    own = known.own ++ added (moved taken) (moved state);
+    seen = moved state;
+  }

@@ -22,10 +22,17 @@ pub record GripSeen (S : Type 0) : Type 0 where
   pub taken : S
 
 abbrev pub lock_code : Coded LockSeen
-lock_code = code_by (TableId × ℕ) (coded× table_id_coded coded_ℕ) (λ l. (l.table, l.seats)) (λ p. record { table = p.0; seats = p.1 }) (λ _. refl)
+lock_code =
+    code_by (TableId × ℕ) (coded× table_id_coded coded_ℕ) (λ l. (l.table, l.seats))
+    (λ p. record { table = p.0; seats = p.1 }) (λ _. refl)
 
 abbrev pub pass_code : Coded PassSeen
-pass_code = code_by (TableId × Known) (coded× table_id_coded the_row.coded) (λ l. (l.table, l.known)) (λ p. record { table = p.0; known = p.1 }) (λ _. refl)
+pass_code =
+    code_by (TableId × Known) (coded× table_id_coded the_row.coded) (λ l. (l.table, l.known))
+    (λ p. record { table = p.0; known = p.1 }) (λ _. refl)
 
 abbrev pub grip_code : {S : Type 0} → Coded S → Coded (GripSeen S)
-grip_code {S} c = code_by (TableId × (Known × S)) (coded× table_id_coded (coded× the_row.coded c)) (λ l. (l.table, (l.known, l.taken))) (λ p. record { table = p.0; known = p.1.0; taken = p.1.1 }) (λ _. refl)
+grip_code {S} c =
+    code_by (TableId × (Known × S)) (coded× table_id_coded (coded× the_row.coded c))
+    (λ l. (l.table, (l.known, l.taken)))
+    (λ p. record { table = p.0; known = p.1.0; taken = p.1.1 }) (λ _. refl)

@@ -12,7 +12,10 @@ nothing_fixed = record { boot = None; areas = [] }
 abbrev pub numbered : ℕ → Part
 numbered n = record { claim = None; converting = None; out = []; room = n ∷ []; live = [] }
 
--- the pass is there, it is of this lock and the processor's, these are the entries that it made, and it left their number
+-- the pass is there, it is of this lock and the processor's, these are the entries that it made,
+-- and it left their number
 abbrev pub Ready : LockSeen → ℕ → Option PassSeen → List Moved → Type 0
 Ready lock cpu None made = ⊥
-Ready lock cpu (Some pass) made = (pass.table ≡ lock.table) × (pass.known.number ≡ cpu) × (pass.known.own ≡ made) × (pass.known.seats ≡ lock.seats) × (pass.known.part ≡ numbered (length made))
+Ready lock cpu (Some pass) made =
+    (pass.table ≡ lock.table) × (pass.known.number ≡ cpu) × (pass.known.own ≡ made)
+    × (pass.known.seats ≡ lock.seats) × (pass.known.part ≡ numbered (length made))

@@ -9,7 +9,8 @@ use crate::pass::Held;
 impl<S> Held<S> {
     /// The state. What is written through the reference is the state from then on.
     pub fn state(&mut self) -> &mut S
-        ensures* writes_back { sem 𝓛 (Lends (the_row S.row) S.row self.entry result (held_with self.old)) }
+        ensures* writes_back { sem 𝓛
+            (Lends (the_row S.row) S.row self.entry result (held_with self.old)) }
         ensures value { result.now ≡ state_of self.old }
     {
         &mut self.state

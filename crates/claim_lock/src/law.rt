@@ -12,7 +12,8 @@ pub struct Law;
 impl<S: Parted> TableRule<Option<S>, View<S>, Origin<S>> for Law {
     ghost holds = { λ origin. Keeps S.fixed S.part S.moved origin.seats };
 
-    ghost first = { λ origin. resting (dealt S.fixed S.part origin.seats origin.state.value 0 origin.seats) };
+    ghost first = { λ origin. resting
+        (dealt S.fixed S.part origin.seats origin.state.value 0 origin.seats) };
 }
 
 /// The first processor of a seat gets a seat of its own.

@@ -10,6 +10,7 @@ use crate::parted::Parted;
 use crate::pass::{Grip, Held, Pass, Token};
 use crate::view::{Origin, View};
 use atomic_table::{Shared, Table};
+use guest_base::limits::MAX_CPUS;
 use std::alloc::{AllocError, Global};
 use std::marker::Model;
 use std::snapshot::Snapshot;
@@ -33,15 +34,19 @@ impl<S: Parted> Model for ClaimLock<S> {
 
     ghost coded = { lock_code };
 
-    ghost view = { λ l. record { table = l.table.shared.table_id; seats = l.table.shared.key.seats } };
+    ghost view = { λ l. record {
+      table = l.table.shared.table_id;
+      seats = l.table.shared.key.seats;
+    } };
 
-    ghost invariant = { λ l. (l.table.shared.table_id.words ≡ 1) × (l.table.shared.table_id.slots ≡ 1) };
+    ghost invariant = { λ l. (l.table.shared.table_id.words ≡ 1)
+        × (l.table.shared.table_id.slots ≡ 1) };
 }
 
 impl<S: Parted> ClaimLock<S> {
     /// Puts a state with no entries under a lock with `seats` passes, 1 to 64, in the order of their processors' numbers from
     /// 0 on. A pass has seen and made no entry, and counts as having left its part as it was handed in.
-    /// `AllocError` comes for want of memory alone, and the state is then dropped.
+    /// `AllocError` comes only where memory runs out, and the state is then dropped.
     pub fn new(
         alloc: Global,
         state: S,
@@ -49,10 +54,15 @@ impl<S: Parted> ClaimLock<S> {
     ) -> Result<(ClaimLock<S>, Vec<Pass<S>>), AllocError>
     where
         S: Drop,
-        requires seats { (1 ≤ seats) × (seats ≤ 64) }
+        requires seats { (1 ≤ seats) × (seats ≤ MAX_CPUS) }
         requires entries { S.moved state ≡ [] }
         ensures lock { IfOk result (λ r. r.0.seats ≡ seats) }
-        ensures passes { IfOk result (λ r. r.1.items ≡ map (λ cpu. record { table = r.0.table; known = first_known S.fixed S.part seats state cpu }) (range_with_len 0 seats)) }
+        ensures passes { IfOk result (λ r. r.1.items ≡ map
+            (λ cpu. record {
+              table = r.0.table;
+              known = first_known S.fixed S.part seats state cpu;
+            })
+            (range_with_len 0 seats)) }
     {
         let mut passes = Vec::with_capacity(alloc, seats as usize)?;
         let origin = Origin {
@@ -70,7 +80,8 @@ impl<S: Parted> ClaimLock<S> {
     /// a processor below the number of passes.
     pub fn take<R: Wait>(&self, rt: &R, pass: Pass<S>) -> Held<S>
         requires { pass.table ≡ self.now.table }
-        ensures grip { grip_of result ≡ record { table = pass.table; known = pass.known; taken = state_of result } }
+        ensures grip { grip_of result
+            ≡ record { table = pass.table; known = pass.known; taken = state_of result } }
         ensures state { Finds S.fixed S.part S.moved pass.known (state_of result) }
     {
         let Pass { number, mut seat } = pass;
@@ -89,7 +100,9 @@ impl<S: Parted> ClaimLock<S> {
         requires rests { seat.old.me ≡ (resting (first_of seat.old.me.0.known ∷ []), []) }
         requires number { number ≡ (first_of seat.old.me.0.known).number }
         ensures table { seat.new.table_id ≡ seat.old.table_id }
-        ensures won { IsTrue result → ((state : S) × (seat.new.me ≡ (holding (first_of seat.old.me.0.known) state, (0, Some state) ∷ [])) × Finds S.fixed S.part S.moved (first_of seat.old.me.0.known) state) }
+        ensures won { IsTrue result → ((state : S)
+            × (seat.new.me ≡ (holding (first_of seat.old.me.0.known) state, (0, Some state) ∷ []))
+            × Finds S.fixed S.part S.moved (first_of seat.old.me.0.known) state) }
         ensures lost { IsFalse result → seat.new.me ≡ seat.old.me }
     {
         self.table
@@ -102,8 +115,14 @@ impl<S: Parted> ClaimLock<S> {
     fn receive(&self, number: u32, mut seat: Token<S>) -> Held<S>
         requires table { seat.table_id ≡ self.now.table }
         requires number { number ≡ (first_of seat.me.0.known).number }
-        requires holds { (state : S) × (seat.me ≡ (holding (first_of seat.me.0.known) state, (0, Some state) ∷ [])) × Finds S.fixed S.part S.moved (first_of seat.me.0.known) state }
-        ensures grip { result.grip ≡ record { table = seat.table_id; known = first_of seat.me.0.known; taken = result.state } }
+        requires holds { (state : S)
+            × (seat.me ≡ (holding (first_of seat.me.0.known) state, (0, Some state) ∷ []))
+            × Finds S.fixed S.part S.moved (first_of seat.me.0.known) state }
+        ensures grip { result.grip ≡ record {
+          table = seat.table_id;
+          known = first_of seat.me.0.known;
+          taken = result.state;
+        } }
         ensures state { Finds S.fixed S.part S.moved (first_of seat.me.0.known) result.state }
     {
         let Some(state) = self.table.shared.exchange(&mut seat, 0, None) else {
@@ -124,9 +143,11 @@ impl<S: Parted> ClaimLock<S> {
     /// entries were added at the end alone, each of them this processor's.
     pub fn give(&self, held: Held<S>) -> Pass<S>
         requires lock { (grip_of held).table ≡ self.now.table }
-        requires state { MayGive S.fixed S.part S.moved (grip_of held).known.number (grip_of held).taken (state_of held) }
+        requires state { MayGive S.fixed S.part S.moved
+            (grip_of held).known.number (grip_of held).taken (state_of held) }
         ensures lock { result.table ≡ (grip_of held).table }
-        ensures known { result.known ≡ left_known S.part S.moved (grip_of held).known (grip_of held).taken (state_of held) }
+        ensures known { result.known
+            ≡ left_known S.part S.moved (grip_of held).known (grip_of held).taken (state_of held) }
     {
         let Held { grip, state } = held;
         let Grip {
@@ -146,7 +167,8 @@ impl<S: Parted> ClaimLock<S> {
     /// for every pass.
     pub fn close(self, passes: Vec<Pass<S>>) -> S
         requires lock { All (λ p. p.table ≡ self.table) passes.items }
-        requires all { (cpu : ℕ) → cpu < self.seats → Any (λ p. p.known.number ≡ cpu) passes.items }
+        requires all { (cpu : ℕ) → cpu < self.seats
+            → Any (λ p. p.known.number ≡ cpu) passes.items }
         ensures { All (λ p. Finds S.fixed S.part S.moved p.known result) passes.items }
     {
         let ClaimLock { table } = self;
@@ -168,8 +190,14 @@ fn opened<S: Parted + Drop>(
 ) -> Result<(Board<S>, Token<S>), AllocError>
     requires state { origin.now.state.value ≡ state }
     requires entries { S.moved state ≡ [] }
-    ensures sizes { IfOk result (λ r. (r.0.shared.table_id.words ≡ 1) × (r.0.shared.table_id.slots ≡ 1) × (r.0.shared.key ≡ origin.now)) }
-    ensures seat { IfOk result (λ r. (r.1.table_id ≡ r.0.shared.table_id) × (r.1.me ≡ (resting (dealt S.fixed S.part origin.now.seats origin.now.state.value 0 origin.now.seats), []))) }
+    ensures sizes { IfOk result (λ r. (r.0.shared.table_id.words ≡ 1)
+        × (r.0.shared.table_id.slots ≡ 1) × (r.0.shared.key ≡ origin.now)) }
+    ensures seat { IfOk result (λ r. (r.1.table_id ≡ r.0.shared.table_id)
+        × (r.1.me ≡ (
+          resting (dealt S.fixed S.part
+              origin.now.seats origin.now.state.value 0 origin.now.seats),
+          [],
+        ))) }
 {
     let mut slots = Vec::with_capacity(alloc, 1)?;
     slots.push_reserved(Some(state));
@@ -186,10 +214,21 @@ fn deal<S: Parted>(
     origin: &Origin<S>,
     passes: &mut Vec<Pass<S>>,
 )
-    requires shared { (shared.now.table_id.words ≡ 1) × (shared.now.key.seats ≡ origin.now.seats) }
-    requires seat { (seat.table_id ≡ shared.now.table_id) × (seat.me ≡ (resting (dealt S.fixed S.part origin.now.seats origin.now.state.value 0 origin.now.seats), [])) }
+    requires shared { (shared.now.table_id.words ≡ 1)
+        × (shared.now.key.seats ≡ origin.now.seats) }
+    requires seat { (seat.table_id ≡ shared.now.table_id)
+        × (seat.me ≡ (
+          resting (dealt S.fixed S.part
+              origin.now.seats origin.now.state.value 0 origin.now.seats),
+          [],
+        )) }
     requires room { (passes.old.items ≡ []) × (origin.now.seats ≤ vec_capacity passes.old) }
-    ensures { passes.new.items ≡ map (λ cpu. record { table = shared.now.table_id; known = first_known S.fixed S.part origin.now.seats origin.now.state.value cpu }) (range_with_len 0 origin.now.seats) }
+    ensures { passes.new.items ≡ map
+        (λ cpu. record {
+          table = shared.now.table_id;
+          known = first_known S.fixed S.part origin.now.seats origin.now.state.value cpu;
+        })
+        (range_with_len 0 origin.now.seats) }
 {
     let mut seat = seat;
     for number in 0..origin.seats {

@@ -25,7 +25,8 @@ impl<S> Model for Pass<S> {
 
     ghost view = { λ p. record { table = p.seat.table_id; known = first_of p.seat.me.0.known } };
 
-    ghost invariant = { λ p. (p.seat.me ≡ (resting (first_of p.seat.me.0.known ∷ []), [])) × (p.number ≡ (first_of p.seat.me.0.known).number) };
+    ghost invariant = { λ p. (p.seat.me ≡ (resting (first_of p.seat.me.0.known ∷ []), []))
+        × (p.number ≡ (first_of p.seat.me.0.known).number) };
 }
 
 /// What ties a held lock to its table. Contracts see of which lock it is, `table`, what the processor knew, `known`, and the
@@ -45,9 +46,15 @@ impl<S> Model for Grip<S> {
 
     ghost coded = { grip_code S.code };
 
-    ghost view = { λ g. record { table = g.seat.table_id; known = first_of g.seat.me.0.known; taken = g.taken.value } };
+    ghost view = { λ g. record {
+      table = g.seat.table_id;
+      known = first_of g.seat.me.0.known;
+      taken = g.taken.value;
+    } };
 
-    ghost invariant = { λ g. (g.seat.me ≡ (holding (first_of g.seat.me.0.known) g.taken.value, (0, None) ∷ [])) × (g.number ≡ (first_of g.seat.me.0.known).number) };
+    ghost invariant = { λ g.
+        (g.seat.me ≡ (holding (first_of g.seat.me.0.known) g.taken.value, (0, None) ∷ []))
+        × (g.number ≡ (first_of g.seat.me.0.known).number) };
 }
 
 /// The state under the lock, held by one processor. It can't be dropped: it has to be given back.

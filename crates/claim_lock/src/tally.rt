@@ -31,7 +31,17 @@ impl Model for Note {
 
 impl Note {
     fn new(cpu: u32, cmd: u32) -> Note
-        ensures { (result.entry.cpu.0 ≡ cpu) × (result ≡ record { entry = record { stamp = cmd; cpu = record { 0 = cpu }; cmd = cmd; place = Place.Own; event = Event.Own; reply = None }; bytes = 7 ∷ [] }) }
+        ensures { (result.entry.cpu.0 ≡ cpu) × (result ≡ record {
+          entry = record {
+            stamp = cmd;
+            cpu = record { 0 = cpu };
+            cmd = cmd;
+            place = Place.Own;
+            event = Event.Own;
+            reply = None;
+          };
+          bytes = 7 ∷ [];
+        }) }
     {
         Note {
             entry: Entry {
@@ -73,13 +83,17 @@ impl Tally {
         }
     }
 
-    // Counts for a processor, and keeps the entry twice; nothing is done for want of memory, or at the last count.
+    // Counts for a processor, and keeps the entry twice; nothing is done where memory runs out, or at the last count.
     fn count(&mut self, cpu: u32, made: &mut Vec<Note>)
         requires cpu { cpu < 64 }
         requires number { slice_index self.old.counts cpu ≡ length made.old.items }
         ensures number { slice_index self.new.counts cpu ≡ length made.new.items }
-        ensures others { (other : ℕ) → other ≢ cpu → slice_index self.new.counts other ≡ slice_index self.old.counts other }
-        ensures notes { (new : List Moved) × (self.new.notes.items ≡ self.old.notes.items ++ new) × (made.new.items ≡ made.old.items ++ new) × All (λ m. m.entry.cpu.0 ≡ cpu) new }
+        ensures others { (other : ℕ) → other ≢ cpu
+            → slice_index self.new.counts other ≡ slice_index self.old.counts other }
+        ensures notes { (new : List Moved)
+            × (self.new.notes.items ≡ self.old.notes.items ++ new)
+            × (made.new.items ≡ made.old.items ++ new)
+            × All (λ m. m.entry.cpu.0 ≡ cpu) new }
     {
         if self.notes.reserve(1).is_err() || made.reserve(1).is_err() {
             return;
@@ -102,7 +116,7 @@ struct Desk {
     made: Vec<Note>,
 }
 
-// Takes the lock so many times, and counts each time.
+// Takes the lock this many times, and counts each time.
 fn work<R: Wait>(rt: &R, lock: &ClaimLock<Tally>, desk: &mut Desk, rounds: u32)
     requires cpu { desk.old.cpu < 64 }
     requires ready { Ready lock.now desk.old.cpu desk.old.pass desk.old.made.items }
@@ -148,10 +162,14 @@ fn seated(
     lock: &ClaimLock<Tally>,
     passes: Vec<Pass<Tally>>,
 ) -> Result<Vec<Desk>, AllocError>
-    requires ready { (k : ℕ) (d : _) → k < length passes.items → Ready lock.now k (Some (slice_index_or passes.items k d)) [] }
+    requires ready { (k : ℕ) (d : _) → k < length passes.items
+        → Ready lock.now k (Some (slice_index_or passes.items k d)) [] }
     requires few { length passes.items ≤ 64 }
     ensures count { IfOk result (λ v. length v.items ≡ length passes.items) }
-    ensures ready { IfOk result (λ v. (k : ℕ) (d : _) → k < length v.items → ((slice_index_or v.items k d).cpu ≡ k) × Ready lock.now k (slice_index_or v.items k d).pass (slice_index_or v.items k d).made.items) }
+    ensures ready { IfOk result (λ v. (k : ℕ) (d : _) → k < length v.items
+        → ((slice_index_or v.items k d).cpu ≡ k)
+        × Ready lock.now k
+        (slice_index_or v.items k d).pass (slice_index_or v.items k d).made.items) }
 {
     let mut desks = Vec::with_capacity(alloc, passes.len())?;
     let mut cpu = 0;
@@ -172,10 +190,14 @@ fn cleared(
     lock: &ClaimLock<Tally>,
     desks: Vec<Desk>,
 ) -> Result<(Vec<Pass<Tally>>, Vec<Vec<Note>>), AllocError>
-    requires { (k : ℕ) (d : _) → k < length desks.items → Ready lock.now k (slice_index_or desks.items k d).pass (slice_index_or desks.items k d).made.items }
+    requires { (k : ℕ) (d : _) → k < length desks.items
+        → Ready lock.now k
+        (slice_index_or desks.items k d).pass (slice_index_or desks.items k d).made.items }
     ensures passes { IfOk result (λ r. length r.0.items ≡ length desks.items) }
     ensures made { IfOk result (λ r. length r.1.items ≡ length desks.items) }
-    ensures ready { IfOk result (λ r. (k : ℕ) (d : _) (e : _) → k < length desks.items → Ready lock.now k (Some (slice_index_or r.0.items k d)) (slice_index_or r.1.items k e).items) }
+    ensures ready { IfOk result (λ r. (k : ℕ) (d : _) (e : _) → k < length desks.items
+        → Ready lock.now k
+        (Some (slice_index_or r.0.items k d)) (slice_index_or r.1.items k e).items) }
 {
     let mut passes = Vec::with_capacity(alloc, desks.len())?;
     let mut all_made = Vec::with_capacity(alloc, desks.len())?;
@@ -188,7 +210,7 @@ fn cleared(
     Ok((passes, all_made))
 }
 
-// Lets so many processors count in threads of their own. Of each of them the state has just the entries that it made, and
+// Lets this many processors count in threads of their own. Of each of them the state has just the entries that it made, and
 // their number.
 pub fn tallied<R: Threads + Wait + Sync>(
     rt: &R,
@@ -198,8 +220,10 @@ pub fn tallied<R: Threads + Wait + Sync>(
 ) -> Result<(Tally, Vec<Vec<Note>>), AllocError>
     requires { (1 ≤ seats) × (seats ≤ 64) }
     ensures count { IfOk result (λ r. length r.1.items ≡ seats) }
-    ensures entries { IfOk result (λ r. (cpu : ℕ) (d : _) → cpu < seats → made_by cpu r.0.notes.items ≡ (slice_index_or r.1.items cpu d).items) }
-    ensures numbers { IfOk result (λ r. (cpu : ℕ) (d : _) → cpu < seats → slice_index r.0.counts cpu ≡ length (slice_index_or r.1.items cpu d).items) }
+    ensures entries { IfOk result (λ r. (cpu : ℕ) (d : _) → cpu < seats
+        → made_by cpu r.0.notes.items ≡ (slice_index_or r.1.items cpu d).items) }
+    ensures numbers { IfOk result (λ r. (cpu : ℕ) (d : _) → cpu < seats
+        → slice_index r.0.counts cpu ≡ length (slice_index_or r.1.items cpu d).items) }
     ensures named { IfOk result (λ r. All (λ m. m.entry.cpu.0 < seats) r.0.notes.items) }
 {
     let (lock, passes) = ClaimLock::new(alloc, Tally::new(alloc), seats)?;
@@ -217,14 +241,21 @@ fn worked<R: Threads + Wait + Sync>(
     rounds: u32,
 )
     requires few { (1 ≤ length desks.old.items) × (length desks.old.items ≤ 64) }
-    requires ready { (k : ℕ) (d : _) → k < length desks.old.items → ((slice_index_or desks.old.items k d).cpu ≡ k) × Ready lock.now k (slice_index_or desks.old.items k d).pass (slice_index_or desks.old.items k d).made.items }
+    requires ready { (k : ℕ) (d : _) → k < length desks.old.items
+        → ((slice_index_or desks.old.items k d).cpu ≡ k)
+        × Ready lock.now k
+        (slice_index_or desks.old.items k d).pass (slice_index_or desks.old.items k d).made.items }
     ensures count { length desks.new.items ≡ length desks.old.items }
-    ensures ready { (k : ℕ) (d : _) → k < length desks.new.items → Ready lock.now k (slice_index_or desks.new.items k d).pass (slice_index_or desks.new.items k d).made.items }
+    ensures ready { (k : ℕ) (d : _) → k < length desks.new.items
+        → Ready lock.now k
+        (slice_index_or desks.new.items k d).pass (slice_index_or desks.new.items k d).made.items }
 {
     let threads = desks.len();
     let serve = |_: usize, desk: &mut Desk|
-        requires { (desk.now.cpu < 64) × Ready lock.now desk.now.cpu desk.now.pass desk.now.made.items }
-        ensures { (desk.exit.now.cpu ≡ desk.entry.now.cpu) × Ready lock.entry.now desk.exit.now.cpu desk.exit.now.pass desk.exit.now.made.items }
+        requires { (desk.now.cpu < 64)
+            × Ready lock.now desk.now.cpu desk.now.pass desk.now.made.items }
+        ensures { (desk.exit.now.cpu ≡ desk.entry.now.cpu)
+            × Ready lock.entry.now desk.exit.now.cpu desk.exit.now.pass desk.exit.now.made.items }
     { work(rt, lock, desk, rounds) };
     thread::for_each_mut(rt, desks.as_mut_slice(), threads, &serve);
 }

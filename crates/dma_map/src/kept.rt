@@ -1,5 +1,5 @@
 //! A processor's live mappings by their names.
-ghost use Rattle.std.specs.Prelude.{◌≡◌, ◌≢◌, ◌<◌, ◌≤◌, ◌+◌, ◌-◌, ◌↔◌, [], ◌∷◌, ◌++◌, List, ℕ, Some, None, OnOk, IsTrue, Any, position, vec_len, vec_capacity};
+ghost use Rattle.std.specs.Prelude.{◌≡◌, ◌≢◌, ◌<◌, ◌≤◌, ◌+◌, ◌-◌, ◌↔◌, List, ℕ, Some, None, IfNone, OnOk, IsTrue, Any, position};
 ghost use Rattle.std.specs.Str.{bytes_eq};
 
 use event_core::Name;
@@ -35,7 +35,10 @@ impl Model for Mappings {
 
     ghost Value = { Kept };
 
-    ghost view = { λ m. record { mappings = m.kept.items; room = vec_capacity m.kept - vec_len m.kept } };
+    ghost view = { λ m. record {
+      mappings = m.kept.items;
+      room = vec_capacity m.kept - vec_len m.kept;
+    } };
 
     ghost invariant = { λ m. HasEachOnce m.kept.items };
 }
@@ -52,7 +55,8 @@ impl Mappings {
         }
     }
 
-    /// Makes room for one more mapping. The mappings stay, also after a refusal.
+    /// Makes room for one more mapping. `AllocError` is out of memory. Whatever the answer, the mappings stay, and the
+    /// room, in mappings, doesn't shrink.
     pub fn reserve(&mut self, _alloc: Global) -> Result<(), AllocError>
         ensures same { (n : List ℕ) → live_at self.new n ≡ live_at self.old n }
         ensures ok { OnOk result (0 < self.new.room) }
@@ -69,7 +73,7 @@ impl Mappings {
         ensures others { (n : List ℕ) → n ≢ name → live_at self.new n ≡ live_at self.old n }
         ensures room { self.old.room ≤ self.new.room + 1 }
     {
-        push_within(&mut self.kept, Mapping { name, live });
+        self.kept.push_reserved(Mapping { name, live });
     }
 
     /// The mapping of a name. None exactly where it has none.
@@ -80,10 +84,11 @@ impl Mappings {
         Some(self.kept[at].live)
     }
 
-    /// Takes the mapping of a name away. None exactly where it has none.
+    /// Takes the mapping of a name away. None exactly where it has none, and then nothing changes, the room neither.
     pub fn remove(&mut self, name: &Name) -> Option<Live>
         ensures found { result ≡ live_at self.old name.now }
         ensures gone { live_at self.new name.now ≡ None }
+        ensures none { IfNone result (self.new ≡ self.old) }
         ensures others { (n : List ℕ) → n ≢ name.now → live_at self.new n ≡ live_at self.old n }
         ensures room { self.old.room ≤ self.new.room }
     {
@@ -94,7 +99,9 @@ impl Mappings {
 
     /// Whether some kept mapping is of this block.
     pub fn any_in(&self, block: Block) -> bool
-        ensures { IsTrue result ↔ ((n : List ℕ) × (live : _) × (live_at self.now n ≡ Some live) × (live.block ≡ block)) }
+        ensures { IsTrue result
+            ↔ ((n : List ℕ) × (live : _) × (live_at self.now n ≡ Some live)
+            × (live.block ≡ block)) }
     {
         any_of(self.kept.as_slice(), block)
     }
@@ -112,15 +119,6 @@ fn any_of(kept: &[Mapping], block: Block) -> bool
     ensures { IsTrue result ↔ Any (λ m. m.live.block ≡ block) kept.now }
 {
     kept.iter().any(|m| m.live.block == block)
-}
-
-/// Adds an item where there is room for it.
-fn push_within(kept: &mut Vec<Mapping>, mapping: Mapping)
-    requires { vec_len kept.old < vec_capacity kept.old }
-    ensures items { kept.new.items ≡ kept.old.items ++ mapping ∷ [] }
-    ensures room { vec_capacity kept.old ≤ vec_capacity kept.new }
-{
-    let _ = kept.push(mapping);
 }
 
 #[cfg(test)]

@@ -4,7 +4,7 @@ ghost use Rattle.std.specs.Int.{IsPowerOfTwo};
 ghost use Rattle.guest_base.specs.Requests.{raised_slots};
 
 use guest_base::Pages;
-use guest_base::limits::SEGMENT_SLOTS;
+use guest_base::limits::{MAX_AREAS, MAX_SLOTS, SEGMENT_SLOTS};
 
 /// A pool: its pages, its slots, and the areas that they are parted into evenly and in order.
 #[derive(Clone, Copy, Debug, PartialEq, Eq)]
@@ -18,11 +18,11 @@ impl Layout {
     /// The slots of a pool of `areas` areas, 1 to 64 and a power of two, for which `slots` were asked, at most 131,072: one
     /// segment for each area where fewer were asked, and else the next power of two, after Linux's swiotlb.
     pub fn raise(slots: u32, areas: u32) -> u32
-        requires slots { slots ≤ 131072 }
-        requires areas { areas ≤ 64 }
+        requires slots { slots ≤ MAX_SLOTS }
+        requires areas { areas ≤ MAX_AREAS }
         requires power { IsPowerOfTwo areas }
         ensures raised { result ≡ raised_slots slots areas }
-        ensures limit { result ≤ 131072 }
+        ensures limit { result ≤ MAX_SLOTS }
         ensures power { IsPowerOfTwo result }
     {
         let least = areas * SEGMENT_SLOTS;

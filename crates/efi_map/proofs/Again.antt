@@ -1,41 +1,28 @@
 -- What was written is read again.
-use Rattle.std.proofs.Common.{◌≡◌, ℕ, suc, ◌+◌, ◌*◌, ◌/◌, ◌%◌, ◌^◌, ◌<◌, ◌≤◌, Bool, true, false, cond, List, [], ◌∷◌, ◌++◌, length, get_or, drop, filter, sum_by, position, max, Some, None, Result, Ok, Err, refl, sym, ap, subst, ◌∙◌, append_assoc, arith, inl, inr, nat_lt, nat_le, ◌==◌}
+use Rattle.std.proofs.Common.{◌≡◌, ℕ, suc, ◌+◌, ◌*◌, ◌/◌, ◌%◌, ◌^◌, ◌<◌, ◌≤◌, Bool, true, false, cond, List, [], ◌∷◌, ◌++◌, length, get_or, drop, filter, sum_by, position, max, Some, None, Result, Ok, Err, refl, sym, ap, subst, ◌∙◌, append_assoc, arith, inl, inr, nat_lt, nat_le, not, ◌==◌}
 use Rattle.std.specs.Result.{IfOk}
 use Rattle.std.specs.List.{All, AllPairs, list_any, flat_map}
 use Rattle.std.proofs.lemmas.Bool.{cases_Bool}
 use Rattle.std.proofs.lemmas.Bool.Decides.{nat_tests}
-use Rattle.std.proofs.lemmas.List.{drop_at, length-append, append-nil, get_or_append_left}
-use Rattle.std.proofs.Math.Seq.{drop-append-add, get_or-append_seam}
+use Rattle.std.proofs.lemmas.List.{length-append, append-nil, get_or_append_left}
+use Rattle.std.proofs.Math.Seq.{get_or-append_seam}
 use Rattle.std.proofs.lemmas.List.Concat.{flat_map-cons}
 use Rattle.std.proofs.lemmas.List.Elements.{All-tail, All-head}
 use Rattle.std.proofs.lemmas.List.Folds.{list_any_none}
 use Rattle.std.proofs.lemmas.List.Sums.{sum_by-append, sum_by-cons}
-use Rattle.byteorder.specs.Numbers.{length-bytes_low_first, little_number-reads_back}
 use Rattle.guest_base.specs.declared.memory.Level.{Level}
 use Rattle.guest_base.specs.declared.memory.Level.TheVariants.{Small, Large, Huge}
 use Rattle.guest_base.specs.declared.memory.HostRun.{HostRun}
 use Rattle.event_core.specs.declared.boot.Descriptor.{Descriptor}
 use Rattle.event_core.specs.Map.{is_ram, ram_pages, descriptor_end, IsDescriptor, AreApart, IsHostRecord, AreHostsApart}
-use Rattle.efi_map.specs.declared.map.GuestMap.{GuestMap}
-use Rattle.efi_map.specs.MapFile.{number, has_pages, end_limit, meet, descriptor_fault, descriptor_at, descriptors_at, level_of, are_pages, host_record, hosts_meet, host_at, hosts_at, word_at, magic_at, stride_at, version_at, count_at, header_at, all_descriptors_at, all_hosts_at, map_of}
+use Rattle.guest_map.specs.declared.map.GuestMap.{GuestMap}
+use Rattle.guest_map.specs.Fields.{number, low_bytes}
+use Rattle.guest_map.proofs.FieldLemmas.{low_length, number_again, low_drop, low_past}
+use Rattle.efi_map.specs.MapFile.{has_pages, end_limit, meet, descriptor_fault, descriptor_at, descriptors_at, level_of, are_pages, host_record, hosts_meet, host_at, hosts_at, word_at, magic_at, stride_at, version_at, count_at, header_at, all_descriptors_at, all_hosts_at, map_of}
 use Rattle.efi_map.proofs.Steps.{position_of_none}
-use Rattle.efi_map.specs.Spelling.{low_bytes, descriptor_bytes, level_number, host_bytes, header_bytes, map_bytes, HasFile}
+use Rattle.efi_map.specs.Spelling.{descriptor_bytes, level_number, host_bytes, header_bytes, map_bytes, HasFile}
 
--- ---- numbers
-
-pub low_length : (width n : ℕ) → length (low_bytes width n) ≡ width
-unfolding low_bytes
-low_length width n = length-bytes_low_first 0 width n
-
-pub number_again : (width n : ℕ) (rest : List ℕ) → n < 256 ^ width → number width (low_bytes width n ++ rest) ≡ n
-unfolding number low_bytes
-number_again width n rest lt = little_number-reads_back width n rest lt
-
-pub low_drop : (width n : ℕ) (rest : List ℕ) → drop width (low_bytes width n ++ rest) ≡ rest
-low_drop width n rest = drop_at (low_bytes width n) rest width (low_length width n)
-
-pub low_past : (width n k : ℕ) (rest : List ℕ) → drop (width + k) (low_bytes width n ++ rest) ≡ drop k rest
-low_past width n k rest = ap (λ (w : ℕ). drop (w + k) (low_bytes width n ++ rest)) (sym (low_length width n)) ∙ drop-append-add (low_bytes width n) rest k
+-- ---- the header
 
 word_again : (size n : ℕ) (rest : List ℕ) → n < 2 ^ 32 → word_at size (low_bytes 4 n ++ rest) ≡ Ok (n, rest)
 word_again size n rest lt =
@@ -100,7 +87,7 @@ fine_again : (before : List Descriptor) (d : Descriptor) → IsDescriptor d → 
 unfolding descriptor_fault
 fine_again before d is each apart few =
     let some : has_pages d ≡ true = grind (arith, nat_tests, is.some) in
-    let aligned : (d.start % 4096 == 0) ≡ true = grind (arith, nat_tests, is.aligned) in
+    let aligned : not (d.start % 4096 == 0) ≡ false = grind (arith, nat_tests, is.aligned) in
     let low : nat_lt (end_limit d) (descriptor_end d) ≡ false = grind (arith, nat_tests, is.below) in
     let none : position (meet d) before ≡ None = position_of_none (meet d) before (λ k x lt. unmet d (get_or before k x) is.some (each k x lt).some (apart k x lt)) in
     let room : nat_lt (2 ^ 24) (sum_by ram_pages before + ram_pages d) ≡ false = grind (arith, nat_tests, few) in

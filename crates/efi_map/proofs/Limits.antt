@@ -8,8 +8,9 @@ use Rattle.guest_base.specs.declared.memory.HostRun.{HostRun}
 use Rattle.event_core.specs.declared.boot.Descriptor.{Descriptor}
 use Rattle.efi_map.specs.declared.fault.MapFault.{MapFault}
 use Rattle.efi_map.specs.declared.fault.MapFault.TheVariants.{TooMany, Trailing}
-use Rattle.efi_map.specs.declared.map.GuestMap.{GuestMap}
-use Rattle.efi_map.specs.MapFile.{◌>>=◌, has_pages, descriptor_fault, unless, descriptor_at, descriptors_at, host_at, hosts_at, Gives, word_at, magic_at, stride_at, version_at, count_at, header_at, all_descriptors_at, all_hosts_at, map_of}
+use Rattle.guest_map.specs.declared.map.GuestMap.{GuestMap}
+use Rattle.guest_map.specs.Fields.{unless}
+use Rattle.efi_map.specs.MapFile.{◌>>=◌, has_pages, descriptor_fault, descriptor_at, descriptors_at, host_at, hosts_at, Gives, word_at, magic_at, stride_at, version_at, count_at, header_at, all_descriptors_at, all_hosts_at, map_of}
 use Rattle.efi_map.proofs.Steps.{bind_ok, guarded_ok, ok_is}
 use Rattle.efi_map.proofs.Rules.{unless_ok}
 

@@ -6,7 +6,8 @@ use Rattle.event_core.specs.declared.boot.Descriptor.{Descriptor}
 use Rattle.event_core.specs.Map.{ram_pages}
 use Rattle.efi_map.specs.declared.fault.MapFault.{MapFault}
 use Rattle.efi_map.specs.declared.fault.MapFault.TheVariants.{NoMemory}
-use Rattle.efi_map.specs.MapFile.{◌>>=◌, descriptor_at, unless, descriptor_fault, descriptors_at, host_at, hosts_at}
+use Rattle.guest_map.specs.Fields.{unless}
+use Rattle.efi_map.specs.MapFile.{◌>>=◌, descriptor_at, descriptor_fault, descriptors_at, host_at, hosts_at}
 
 -- a refusal that isn't want of memory is that of reading
 abbrev pub Refuses : {A : Type 0} → MapFault → Result A MapFault → Type 0

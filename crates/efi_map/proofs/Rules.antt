@@ -1,5 +1,5 @@
 -- A map that was read meets the rules of maps.
-use Rattle.std.proofs.Common.{◌≡◌, ℕ, zero, suc, ◌+◌, ◌-◌, ◌/◌, ◌%◌, ◌^◌, ◌<◌, ◌≤◌, Bool, true, false, cond, List, [], ◌∷◌, ◌++◌, length, get_or, drop, filter, sum_by, position, Option, Some, None, Result, Ok, Err, refl, sym, ap, subst, ◌∙◌, arith, inl, inr, nat_lt, nat_le, ◌==◌}
+use Rattle.std.proofs.Common.{◌≡◌, ℕ, zero, suc, ◌+◌, ◌-◌, ◌/◌, ◌%◌, ◌^◌, ◌<◌, ◌≤◌, Bool, true, false, cond, List, [], ◌∷◌, ◌++◌, length, get_or, drop, filter, sum_by, position, Option, Some, None, Result, Ok, Err, refl, sym, ap, subst, ◌∙◌, arith, inl, inr, nat_lt, nat_le, not, ◌==◌}
 use Rattle.std.specs.Prelude.{IfOk}
 use Rattle.std.specs.Option.{option_map}
 use Rattle.std.specs.List.{All, AllPairs, list_any}
@@ -17,9 +17,10 @@ use Rattle.event_core.specs.declared.boot.Descriptor.{Descriptor}
 use Rattle.event_core.specs.Map.{ram_pages, descriptor_end, IsDescriptor, AreApart, IsHostRecord, AreHostsApart, MapRules}
 use Rattle.efi_map.specs.declared.fault.MapFault.{MapFault}
 use Rattle.efi_map.specs.declared.fault.MapFault.TheVariants.{Short, BadMagic, BadSize, BadVersion, TooMany, Unaligned, TooHigh, TooMuchRam, BadHost, Trailing}
-use Rattle.efi_map.specs.declared.map.GuestMap.{GuestMap}
-use Rattle.efi_map.specs.MapFile.{◌>>=◌, number, has_pages, end_limit, meet, place_fault, overlap_fault, ram_fault, descriptor_fault, unless, descriptor_at, descriptors_at, level_of, are_pages, host_record, hosts_meet, host_behind, host_at, hosts_at, Gives, is_stride, word_at, magic_at, stride_at, version_at, count_at, header_at, all_descriptors_at, all_hosts_at, map_of}
-use Rattle.efi_map.proofs.Steps.{IsBytes, IsBytes-drop, bind_ok, guard_ok, guarded_ok, cond_none, cond_else_none, cond_err_ok, cond_then_some, ok_is, position_none, list_any_false}
+use Rattle.guest_map.specs.declared.map.GuestMap.{GuestMap}
+use Rattle.guest_map.specs.Fields.{number, unless}
+use Rattle.efi_map.specs.MapFile.{◌>>=◌, has_pages, end_limit, meet, overlap, descriptor_fault, descriptor_at, descriptors_at, level_of, are_pages, host_record, hosts_meet, host_behind, host_at, hosts_at, Gives, is_stride, word_at, magic_at, stride_at, version_at, count_at, header_at, all_descriptors_at, all_hosts_at, map_of}
+use Rattle.efi_map.proofs.Steps.{IsBytes, IsBytes-drop, bind_ok, guard_ok, guarded_ok, cond_none, cond_err_ok, cond_then_some, ok_is, position_none, list_any_false}
 
 -- ---- one descriptor
 
@@ -29,18 +30,24 @@ pub record IsFine (before : List Descriptor) (d : Descriptor) : Type 0 where
   pub apart : position (meet d) before ≡ None
   pub few : sum_by ram_pages before + ram_pages d ≤ 2 ^ 24
 
-overlap_none : (before : List Descriptor) (d : Descriptor) (found : Option ℕ) → overlap_fault before d found ≡ None → (found ≡ None) × (ram_fault before d ≡ None)
-overlap_none before d None e = (refl, e)
-overlap_none before d (Some k) e = absurd cc
+overlap_none : (number : ℕ) (found : Option ℕ) (others : Option MapFault) → overlap number found others ≡ None → (found ≡ None) × (others ≡ None)
+overlap_none number None others e = (refl, e)
+overlap_none number (Some k) others e = absurd cc
 
 is_fine : (before : List Descriptor) (d : Descriptor) → has_pages d ≡ true → descriptor_fault before d ≡ None → IsFine before d
 unfolding descriptor_fault
 is_fine before d some e =
-    let placed : place_fault before d ≡ None = sym (ap (λ (b : Bool). cond b (place_fault before d) None) some) ∙ e in
-    let a = cond_else_none (d.start % 4096 == 0) (Unaligned (length before)) (cond (nat_lt (end_limit d) (descriptor_end d)) (Some (TooHigh (length before))) (overlap_fault before d (position (meet d) before))) placed in
-    let b = cond_none (nat_lt (end_limit d) (descriptor_end d)) (TooHigh (length before)) (overlap_fault before d (position (meet d) before)) a.1 in
-    let o = overlap_none before d (position (meet d) before) b.1 in
-    let r = cond_none (nat_lt (2 ^ 24) (sum_by ram_pages before + ram_pages d)) TooMuchRam None o.1 in
+    let number = length before in
+    let much = nat_lt (2 ^ 24) (sum_by ram_pages before + ram_pages d) in
+    let behind : Option MapFault = cond much (Some TooMuchRam) None in
+    let met = overlap number (position (meet d) before) behind in
+    let high = cond (nat_lt (end_limit d) (descriptor_end d)) (Some (TooHigh number)) met in
+    let first = cond (not (d.start % 4096 == 0)) (Some (Unaligned number)) high in
+    let placed : first ≡ None = sym (ap (λ (b : Bool). cond b first None) some) ∙ e in
+    let a = cond_none (not (d.start % 4096 == 0)) (Unaligned number) high placed in
+    let b = cond_none (nat_lt (end_limit d) (descriptor_end d)) (TooHigh number) met a.1 in
+    let o = overlap_none number (position (meet d) before) behind b.1 in
+    let r = cond_none much TooMuchRam None o.1 in
     record {
       aligned = grind (arith, nat_tests, a.0);
       below = grind (arith, nat_tests, b.0);

@@ -42,10 +42,6 @@ pub cond_none : {A : Type 0} (b : Bool) (x : A) (more : Option A) → cond b (So
 cond_none true x more e = absurd cc
 cond_none false x more e = (refl, e)
 
-pub cond_else_none : {A : Type 0} (b : Bool) (x : A) (more : Option A) → cond b more (Some x) ≡ None → (b ≡ true) × (more ≡ None)
-cond_else_none true x more e = (refl, e)
-cond_else_none false x more e = absurd cc
-
 abbrev done : {A : Type 0} → A → Result A MapFault
 done x = Ok x
 

@@ -1,4 +1,3 @@
 pub mod MapFile
-pub mod Ram
 pub mod Spelling
 pub mod Starts

@@ -1,9 +1,8 @@
 -- The map file, from left to right, with the first refusal that is met. Numbers are little endian. The fields of a descriptor are
 -- those of a UEFI memory descriptor; all else is this project's own.
-use Rattle.std.specs.Prelude.{◌≡◌, ◌⊎◌, ℕ, zero, suc, ◌+◌, ◌-◌, ◌/◌, ◌%◌, ◌^◌, Bool, ◌&&◌, ◌==◌, nat_lt, nat_le, List, [], ◌∷◌, ◌++◌, length, drop, filter, sum_by, max, min, position, Option, Some, None, Result, Ok, Err, if◌then◌else◌}
+use Rattle.std.specs.Prelude.{◌≡◌, ◌⊎◌, ℕ, zero, suc, ◌+◌, ◌-◌, ◌/◌, ◌%◌, ◌^◌, Bool, ◌&&◌, ◌==◌, nat_lt, nat_le, List, [], ◌∷◌, ◌++◌, length, drop, filter, sum_by, max, min, position, Option, Some, None, Result, Ok, Err, if◌then◌else◌, not}
 use Rattle.std.specs.List.{list_any}
 use Rattle.std.specs.Option.{option_map}
-use Rattle.byteorder.specs.Endian.{little_number}
 use Rattle.guest_base.specs.declared.memory.Level.{Level}
 use Rattle.guest_base.specs.declared.memory.Level.TheVariants.{Small, Large, Huge}
 use Rattle.guest_base.specs.declared.memory.HostRun.{HostRun}
@@ -11,7 +10,9 @@ use Rattle.event_core.specs.declared.boot.Descriptor.{Descriptor}
 use Rattle.event_core.specs.Map.{is_ram, ram_pages, descriptor_end}
 use Rattle.efi_map.specs.declared.fault.MapFault.{MapFault}
 use Rattle.efi_map.specs.declared.fault.MapFault.TheVariants.{Short, BadMagic, BadSize, BadVersion, TooMany, Unaligned, TooHigh, Overlap, TooMuchRam, BadHost, Trailing, NoMemory}
-use Rattle.efi_map.specs.declared.map.GuestMap.{GuestMap}
+use Rattle.guest_map.specs.declared.map.GuestMap.{GuestMap}
+use Rattle.guest_map.specs.Fields.{number, refuse, unless}
+use Rattle.guest_base.specs.declared.limits.TheConstants.{PAGE_BYTES, ADDRESS_END, MAX_RAM_PAGES, MAX_DESCRIPTORS}
 
 infixl 10 ◌>>=◌
 abbrev pub ◌>>=◌ : {A B : Type 0} → Result A MapFault → (A → Result B MapFault) → Result B MapFault
@@ -23,11 +24,8 @@ abbrev pub Gives : {X Y : Type 0} → (X → Y) → Result X MapFault → Result
 Gives view (Ok x) read = read ≡ Ok (view x)
 Gives view (Err e) read = (e ≡ NoMemory) ⊎ (read ≡ Err e)
 
--- the little-endian number in the first bytes
-unfoldable pub number : ℕ → List ℕ → ℕ
-number width bytes = little_number width bytes
-
--- A field is a value and the bytes after it. `size` is the length of the whole file, which is told where the file ends too early.
+-- A field is a value and the bytes after it. `size` is the length of the whole file, which a
+-- refusal says where the file ends too early.
 abbrev pub word_at : ℕ → List ℕ → Result (ℕ × List ℕ) MapFault
 word_at size bytes = if nat_lt (length bytes) 4 then Err (Short size) else Ok (number 4 bytes, drop 4 bytes)
 
@@ -52,11 +50,11 @@ version_at size bytes = do
   version ← word_at size bytes
   if version.0 == 1 then Ok version.1 else Err (BadVersion version.0)
 
--- how many descriptors, or how many host records: at most 4,096
+-- the count of descriptors, or that of host records: at most 4,096
 unfoldable pub count_at : ℕ → List ℕ → Result (ℕ × List ℕ) MapFault
 count_at size bytes = do
   count ← word_at size bytes
-  if nat_le count.0 4096 then Ok count else Err (TooMany count.0)
+  if nat_le count.0 MAX_DESCRIPTORS then Ok count else Err (TooMany count.0)
 
 -- a descriptor's type, its start and its number of pages; the other fields, and what stands behind them, are ignored
 unfoldable pub descriptor_at : ℕ → ℕ → List ℕ → Result (Descriptor × List ℕ) MapFault
@@ -70,39 +68,32 @@ has_pages d = nat_lt 0 d.pages
 
 -- RAM ends within 2^40, and all else within 2^64
 abbrev pub end_limit : Descriptor → ℕ
-end_limit d = if is_ram d then 2 ^ 40 else 2 ^ 64
+end_limit d = if is_ram d then ADDRESS_END else 2 ^ 64
 
 -- two descriptors have a byte in common: the later start is below the earlier end
 abbrev pub meet : Descriptor → Descriptor → Bool
 meet a b = nat_lt (max a.start b.start) (min (descriptor_end a) (descriptor_end b))
 
--- What is wrong with a descriptor that has pages, behind those that stand before it. Its number is how many these are. Last, the
--- RAM of all of them, and its own, is at most 64 GiB.
-abbrev pub ram_fault : List Descriptor → Descriptor → Option MapFault
-ram_fault before d = if nat_lt (2 ^ 24) (sum_by ram_pages before + ram_pages d) then Some TooMuchRam else None
+-- a descriptor of this number meets an earlier one, of which the first is named; else what the
+-- checks behind it say
+abbrev pub overlap : ℕ → Option ℕ → Option MapFault → Option MapFault
+overlap number (Some earlier) others = Some (Overlap earlier number)
+overlap number None others = others
 
--- before that: it meets one of those, of which the first is told
-abbrev pub overlap_fault : List Descriptor → Descriptor → Option ℕ → Option MapFault
-overlap_fault before d (Some earlier) = Some (Overlap earlier (length before))
-overlap_fault before d None = ram_fault before d
-
--- and first: it doesn't start on a page, or ends too high
-abbrev pub place_fault : List Descriptor → Descriptor → Option MapFault
-place_fault before d =
-    if d.start % 4096 == 0
-    then (if nat_lt (end_limit d) (descriptor_end d) then Some (TooHigh (length before)) else overlap_fault before d (position (meet d) before))
-    else Some (Unaligned (length before))
-
--- the first thing that is wrong with a descriptor, behind those that stand before it
+-- What is wrong with a descriptor, behind those that stand before it, whose count is its number:
+-- it doesn't start on a page, it ends too high, it meets an earlier one, or the RAM of all of them
+-- is above 64 GiB together with its own.
 unfoldable pub descriptor_fault : List Descriptor → Descriptor → Option MapFault
-descriptor_fault before d = if has_pages d then place_fault before d else None
+descriptor_fault before d =
+    if has_pages d
+    then
+    refuse (Unaligned (length before)) (not (d.start % PAGE_BYTES == 0))
+    (refuse (TooHigh (length before)) (nat_lt (end_limit d) (descriptor_end d))
+    (overlap (length before) (position (meet d) before)
+    (refuse TooMuchRam (nat_lt MAX_RAM_PAGES (sum_by ram_pages before + ram_pages d)) None)))
+    else None
 
--- a value, where nothing is wrong with it
-abbrev pub unless : {A : Type 0} → Option MapFault → A → Result A MapFault
-unless None x = Ok x
-unless (Some fault) x = Err fault
-
--- the next descriptors, so many of them, behind those that stand before them
+-- the next descriptors, this many of them, behind those that stand before them
 unfoldable pub descriptors_at : ℕ → ℕ → ℕ → List Descriptor → List ℕ → Result (List Descriptor × List ℕ) MapFault
 descriptors_at size stride zero before bytes = Ok (before, bytes)
 descriptors_at size stride (suc count) before bytes = do
@@ -119,13 +110,18 @@ level_of (suc (suc (suc n))) = None
 
 -- bytes that are whole pages, and lie below 2^40
 abbrev pub are_pages : ℕ → ℕ → Bool
-are_pages start len = (start % 4096 == 0) && ((len % 4096 == 0) && (nat_lt 0 len && nat_le (start + len) (2 ^ 40)))
+are_pages start len =
+    (start % PAGE_BYTES == 0)
+    && ((len % PAGE_BYTES == 0) && (nat_lt 0 len && nat_le (start + len) ADDRESS_END))
 
 -- the record of these bytes, where it is one
 unfoldable pub host_record : ℕ → ℕ → ℕ → Option HostRun
 host_record start len level =
     if are_pages start len
-    then option_map (λ l. record { pages = record { first = start / 4096; count = len / 4096 }; level = l }) (level_of level)
+    then
+    option_map
+    (λ l. record { pages = record { first = start / PAGE_BYTES; count = len / PAGE_BYTES }; level = l })
+    (level_of level)
     else None
 
 -- two host records have a page in common
@@ -142,7 +138,7 @@ host_at size before bytes =
     if nat_lt (length bytes) 20 then Err (Short size)
     else (host_behind before (host_record (number 8 bytes) (number 8 (drop 8 bytes)) (number 4 (drop 16 bytes))) >>= λ h. Ok (h, drop 20 bytes))
 
--- the next host records, so many of them, behind those that stand before them
+-- the next host records, this many of them, behind those that stand before them
 unfoldable pub hosts_at : ℕ → ℕ → List HostRun → List ℕ → Result (List HostRun × List ℕ) MapFault
 hosts_at size zero before bytes = Ok (before, bytes)
 hosts_at size (suc count) before bytes = do

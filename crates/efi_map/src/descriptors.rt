@@ -2,7 +2,8 @@
 ghost use Rattle.std.specs.Prelude.{◌≡◌, ◌<◌, ◌≤◌, ◌^◌, [], length, position, sum_by};
 ghost use Rattle.std.specs.BTreeMap.{get};
 ghost use Rattle.std.specs.Ordering.{nat_cmp};
-ghost use Rattle.event_core.specs.Map.{is_ram as names_ram, descriptor_end, ram_pages};
+ghost use Rattle.event_core.specs.Map.{descriptor_end, ram_pages};
+ghost use Rattle.guest_base.specs.declared.limits.TheConstants.{MAX_DESCRIPTORS};
 ghost use Rattle.efi_map.specs.Starts.{IndexesDescriptors};
 ghost use Rattle.efi_map.specs.MapFile.{Gives, descriptor_at, descriptors_at, all_descriptors_at, descriptor_fault, end_limit, meet};
 
@@ -12,14 +13,8 @@ use crate::starts::{Starts, is_clear, note};
 use byteorder::{ByteOrder, LittleEndian};
 use event_core::Descriptor;
 use guest_base::limits::{ADDRESS_END, MAX_RAM_PAGES, PAGE_BYTES};
+use guest_map::is_ram;
 use std::alloc::Global;
-
-/// Whether a descriptor is RAM: loader code and data, boot services code and data, conventional or unaccepted memory.
-pub fn is_ram(d: Descriptor) -> bool
-    ensures { result ≡ names_ram d }
-{
-    matches!(d.kind, 1..=4 | 7 | 15)
-}
 
 /// The address behind a descriptor's last byte.
 fn end(d: Descriptor) -> u128
@@ -47,7 +42,7 @@ fn end_limit(d: Descriptor) -> u128
     }
 }
 
-#[tactic(auto, unfolding(crate::specs::MapFile::descriptor_at, crate::specs::MapFile::number))]
+#[tactic(auto, unfolding(crate::specs::MapFile::descriptor_at, guest_map::specs::Fields::number))]
 fn descriptor(size: u64, stride: u32, bytes: &[u8]) -> Result<(Descriptor, &[u8]), MapFault>
     requires { 40 ≤ stride }
     ensures { Gives (λ x. (x.0, x.1.now)) result (descriptor_at size stride bytes.now) }
@@ -87,7 +82,7 @@ fn first_met(before: &[Descriptor], starts: &Starts, d: Descriptor) -> Option<us
 /// The first thing that is wrong with a descriptor, behind those before it, which have `ram` pages of RAM.
 #[tactic(auto, unfolding(crate::specs::MapFile::descriptor_fault))]
 fn fault(before: &[Descriptor], starts: &Starts, ram: u64, d: Descriptor) -> Option<MapFault>
-    requires few { length before.now ≤ 4096 }
+    requires few { length before.now ≤ MAX_DESCRIPTORS }
     requires index { IndexesDescriptors (get nat_cmp starts.now) before.now }
     requires ram { ram ≡ sum_by ram_pages before.now }
     ensures { result ≡ descriptor_fault before.now d }
@@ -120,8 +115,9 @@ fn descriptors(
     bytes: &[u8],
 ) -> Result<(Vec<Descriptor>, &[u8]), MapFault>
     requires stride { 40 ≤ stride }
-    requires few { count ≤ 4096 }
-    ensures { Gives (λ x. (x.0.items, x.1.now)) result (descriptors_at size stride count [] bytes.now) }
+    requires few { count ≤ MAX_DESCRIPTORS }
+    ensures { Gives (λ x. (x.0.items, x.1.now)) result
+        (descriptors_at size stride count [] bytes.now) }
 {
     let mut found = Vec::new(alloc);
     let mut starts = Starts::new(alloc);

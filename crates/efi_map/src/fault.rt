@@ -16,35 +16,35 @@ pub enum MapFault {
     /// It doesn't begin with `GMAP`.
     #[error("no map file")]
     BadMagic,
-    /// The size of a descriptor isn't a multiple of 8 from 40 to 256.
+    /// The size of a descriptor, this many bytes, isn't a multiple of 8 from 40 to 256.
     #[error("descriptors of {0} bytes")]
     BadSize(u32),
-    /// The version isn't 1.
+    /// The version, this number, isn't 1.
     #[error("version {0}")]
     BadVersion(u32),
-    /// More than 4,096 descriptors or host records.
+    /// The count of descriptors or of host records, this number, is above 4,096.
     #[error("{0} descriptors or host records")]
     TooMany(u32),
-    /// This descriptor doesn't start on a page of 4,096 bytes.
+    /// The descriptor of this number doesn't start on a page of 4,096 bytes.
     #[error("descriptor {0} doesn't start on a page")]
     Unaligned(u32),
-    /// This descriptor ends above 2^40 bytes, or above 2^64 where it isn't RAM.
+    /// The descriptor of this number ends above 2^40 bytes, or above 2^64 where it isn't RAM.
     #[error("descriptor {0} ends too high")]
     TooHigh(u32),
-    /// The second descriptor has a byte in common with the first, which is the first such one.
+    /// The descriptor of the second number has a byte in common with an earlier one, the first of which has the first number.
     #[error("descriptors {0} and {1} overlap")]
     Overlap(u32, u32),
     /// The descriptors up to here have more than 64 GiB of RAM.
     #[error("more than 64 GiB of RAM")]
     TooMuchRam,
-    /// This host record isn't made of whole pages, is empty, ends above 2^40 bytes, has a level above 2, or meets an
+    /// The host record of this number isn't made of whole pages, is empty, ends above 2^40 bytes, has a level above 2, or meets an
     /// earlier one.
     #[error("host record {0}")]
     BadHost(u32),
-    /// Bytes stand behind the host records, from this place on.
+    /// Bytes stand behind the host records, from this place on, counted in bytes from 0.
     #[error("bytes behind the end, at {0}")]
     Trailing(u64),
-    /// Want of memory.
+    /// Out of memory.
     #[error("no memory")]
     NoMemory,
 }

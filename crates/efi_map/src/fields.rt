@@ -1,5 +1,6 @@
 //! The fields of a map file, from left to right. `size` is the length of the whole file.
 ghost use Rattle.std.specs.Prelude.{◌≤◌, IfOk};
+ghost use Rattle.guest_base.specs.declared.limits.TheConstants.{MAX_DESCRIPTORS};
 ghost use Rattle.efi_map.specs.MapFile.{Gives, word_at, magic_at, stride_at, version_at, count_at, header_at};
 
 use crate::fault::MapFault;
@@ -9,7 +10,7 @@ use guest_base::limits::MAX_DESCRIPTORS;
 /// The bytes `GMAP`, as a number.
 pub const MAGIC: u32 = 0x50414d47;
 
-#[tactic(auto, unfolding(crate::specs::MapFile::number))]
+#[tactic(auto, unfolding(guest_map::specs::Fields::number))]
 fn word(size: u64, bytes: &[u8]) -> Result<(u32, &[u8]), MapFault>
     ensures { Gives (λ x. (x.0, x.1.now)) result (word_at size bytes.now) }
 {
@@ -58,7 +59,7 @@ fn version(size: u64, bytes: &[u8]) -> Result<&[u8], MapFault>
 #[tactic(auto, unfolding(crate::specs::MapFile::count_at))]
 pub fn count(size: u64, bytes: &[u8]) -> Result<(u32, &[u8]), MapFault>
     ensures exact { Gives (λ x. (x.0, x.1.now)) result (count_at size bytes.now) }
-    ensures few { IfOk result (λ x. x.0 ≤ 4096) }
+    ensures few { IfOk result (λ x. x.0 ≤ MAX_DESCRIPTORS) }
 {
     let (count, rest) = word(size, bytes)?;
     if count > MAX_DESCRIPTORS {
@@ -71,7 +72,7 @@ pub fn count(size: u64, bytes: &[u8]) -> Result<(u32, &[u8]), MapFault>
 #[tactic(auto, unfolding(crate::specs::MapFile::header_at))]
 pub fn header(size: u64, bytes: &[u8]) -> Result<(u32, u32, &[u8]), MapFault>
     ensures exact { Gives (λ x. (x.0, x.1, x.2.now)) result (header_at size bytes.now) }
-    ensures bounds { IfOk result (λ x. (40 ≤ x.0) × (x.1 ≤ 4096)) }
+    ensures bounds { IfOk result (λ x. (40 ≤ x.0) × (x.1 ≤ MAX_DESCRIPTORS)) }
 {
     let rest = magic(size, bytes)?;
     let (stride, rest) = stride(size, rest)?;

@@ -4,6 +4,7 @@ ghost use Rattle.std.specs.List.{list_any};
 ghost use Rattle.std.specs.BTreeMap.{get};
 ghost use Rattle.std.specs.Ordering.{nat_cmp};
 ghost use Rattle.event_core.specs.Map.{IsHostRecord};
+ghost use Rattle.guest_base.specs.declared.limits.TheConstants.{MAX_DESCRIPTORS};
 ghost use Rattle.efi_map.specs.Starts.{IndexesHosts, host_end};
 ghost use Rattle.efi_map.specs.MapFile.{Gives, level_of, are_pages, host_record, hosts_meet, host_at, hosts_at, all_hosts_at};
 
@@ -78,14 +79,14 @@ fn meets_one(before: &[HostRun], starts: &Starts, run: HostRun) -> bool
     !is_clear(starts, run.pages.first, last) && before.iter().any(|earlier| meet(run, *earlier))
 }
 
-#[tactic(auto, unfolding(crate::specs::MapFile::host_at, crate::specs::MapFile::number))]
+#[tactic(auto, unfolding(crate::specs::MapFile::host_at, guest_map::specs::Fields::number))]
 fn host<'a>(
     size: u64,
     before: &[HostRun],
     starts: &Starts,
     bytes: &'a [u8],
 ) -> Result<(HostRun, &'a [u8]), MapFault>
-    requires few { length before.now ≤ 4096 }
+    requires few { length before.now ≤ MAX_DESCRIPTORS }
     requires index { IndexesHosts (get nat_cmp starts.now) before.now }
     ensures { Gives (λ x. (x.0, x.1.now)) result (host_at size before.now bytes.now) }
 {
@@ -108,7 +109,7 @@ fn hosts(
     count: u32,
     bytes: &[u8],
 ) -> Result<(Vec<HostRun>, &[u8]), MapFault>
-    requires { count ≤ 4096 }
+    requires { count ≤ MAX_DESCRIPTORS }
     ensures { Gives (λ x. (x.0.items, x.1.now)) result (hosts_at size count [] bytes.now) }
 {
     let mut found = Vec::new(alloc);

@@ -5,15 +5,11 @@ mod descriptors;
 mod fault;
 mod fields;
 mod hosts;
-mod map;
-mod ram;
 mod reading;
 mod starts;
 mod writing;
 
 pub use fault::MapFault;
-pub use map::GuestMap;
-pub use ram::push_run;
 pub use reading::read_map;
 pub use writing::write_map;
 

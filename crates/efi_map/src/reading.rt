@@ -1,13 +1,14 @@
 //! Reading a map file.
 ghost use Rattle.std.specs.Prelude.{◌≡◌, ◌≤◌, IfOk, filter, length};
 ghost use Rattle.event_core.specs.Map.{MapRules};
+ghost use Rattle.guest_base.specs.declared.limits.TheConstants.{MAX_DESCRIPTORS, MAX_HOSTS};
 ghost use Rattle.efi_map.specs.MapFile.{Gives, has_pages, map_of};
 
 use crate::descriptors::all_descriptors;
 use crate::fault::MapFault;
 use crate::hosts::all_hosts;
-use crate::map::GuestMap;
 use event_core::{Descriptor, Descriptors, Hosts};
+use guest_map::GuestMap;
 use std::alloc::{AllocError, Global};
 
 /// The descriptors that have pages.
@@ -44,8 +45,10 @@ pub fn read_map(alloc: Global, bytes: &[u8]) -> Result<GuestMap, MapFault>
     ensures exact { Gives (λ map. map) result (map_of bytes.now) }
     // A map that was read meets the rules of maps.
     ensures rules { IfOk result (λ map. MapRules map.descriptors map.hosts) }
-    // It has at most 4,096 descriptors and as many host records, so that what `write_map` makes of it is read again as it.
-    ensures few { IfOk result (λ map. (length map.descriptors ≤ 4096) × (length map.hosts ≤ 4096)) }
+    // It has at most 4,096 descriptors and as many host records, so that what `write_map` makes
+    // of it is read again as it.
+    ensures few { IfOk result (λ map.
+        (length map.descriptors ≤ MAX_DESCRIPTORS) × (length map.hosts ≤ MAX_HOSTS)) }
 {
     map(alloc, bytes)
 }

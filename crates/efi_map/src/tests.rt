@@ -1,6 +1,7 @@
 use super::*;
 use event_core::{Descriptor, Descriptors, Hosts};
 use guest_base::{HostRun, Level, PageRun, PageState, Pages};
+use guest_map::GuestMap;
 use std::alloc::{AllocError, Global};
 use std::test::*;
 
@@ -13,19 +14,13 @@ const A: [u8; 100] = [
 ];
 
 #[test]
-fn reads_a_map(rt: HostRuntime) -> Result<(), Fail> {
+fn reads_and_writes_a_map(rt: HostRuntime) -> Result<(), Fail> {
     let map = read_map(rt.alloc(), &A)?;
     assert_eq!(rt; map.descriptors.len(), 2);
     assert_eq!(rt; map.hosts.len(), 0);
     assert_eq!(rt; map.descriptors.get(1).kind, 15);
     assert_eq!(rt; map.descriptors.get(1).start, 0x40_0000);
     assert_eq!(rt; map.descriptors.get(1).pages, 2048);
-    Ok(())
-}
-
-#[test]
-fn writes_a_map(rt: HostRuntime) -> Result<(), Fail> {
-    let map = read_map(rt.alloc(), &A)?;
     let bytes = write_map(rt.alloc(), &map)?;
     assert_eq!(rt; bytes.as_slice(), A.as_slice());
     Ok(())
@@ -37,16 +32,6 @@ fn run(first: u64, count: u64, state: PageState) -> PageRun {
         pages: Pages { first, count },
         state,
     }
-}
-
-#[test]
-fn finds_ram(rt: HostRuntime) -> Result<(), Fail> {
-    let map = read_map(rt.alloc(), &A)?;
-    let runs = map.ram(rt.alloc())?;
-    let accepted = run(0, 1024, PageState::Accepted);
-    let pending = run(1024, 2048, PageState::Pending);
-    assert_eq!(rt; runs.as_slice(), [accepted, pending].as_slice());
-    Ok(())
 }
 
 /// The file of a map with these descriptors, each of them a type, a start in bytes and a number of pages.
@@ -62,27 +47,6 @@ fn file(alloc: Global, descriptors: &[(u32, u64, u64)]) -> Result<Vec<u8>, Alloc
     }
     bytes.extend_from_slice(&[0; 4])?;
     Ok(bytes)
-}
-
-#[test]
-fn finds_ram_that_ends_within_a_unit(rt: HostRuntime) -> Result<(), Fail> {
-    let bytes = file(rt.alloc(), &[(7, 0, 1024), (15, 0x40_0000, 1023)])?;
-    let runs = read_map(rt.alloc(), &bytes)?.ram(rt.alloc())?;
-    let accepted = run(0, 1024, PageState::Accepted);
-    let pending = run(1024, 1023, PageState::Pending);
-    assert_eq!(rt; runs.as_slice(), [accepted, pending].as_slice());
-    Ok(())
-}
-
-#[test]
-fn finds_ram_that_begins_within_a_unit(rt: HostRuntime) -> Result<(), Fail> {
-    let bytes = file(rt.alloc(), &[(15, 0x40_1000, 3072)])?;
-    let runs = read_map(rt.alloc(), &bytes)?.ram(rt.alloc())?;
-    assert_eq!(rt;
-        runs.as_slice(),
-        [run(0x401, 3072, PageState::Pending)].as_slice()
-    );
-    Ok(())
 }
 
 #[test]

@@ -1,31 +1,15 @@
 //! Writing a map file.
 ghost use Rattle.std.specs.Prelude.{◌≡◌, ◌++◌, Ok, IfOk, OnOk};
-ghost use Rattle.efi_map.specs.Spelling.{low_bytes, descriptor_bytes, level_number, host_bytes, header_bytes, map_bytes, HasFile};
+ghost use Rattle.efi_map.specs.Spelling.{descriptor_bytes, level_number, host_bytes, header_bytes, map_bytes, HasFile};
 ghost use Rattle.efi_map.specs.MapFile.{map_of};
 ghost use Rattle.std.specs.List.{flat_map};
 
 use crate::fields::MAGIC;
-use crate::map::GuestMap;
 use event_core::Descriptor;
 use guest_base::limits::PAGE_BYTES;
 use guest_base::{Bytes, HostRun, Level};
+use guest_map::{GuestMap, put_long, put_word};
 use std::alloc::{AllocError, Global};
-
-/// Adds the lowest 4 bytes of a number.
-#[tactic(auto, unfolding(crate::specs::Spelling::low_bytes))]
-fn put_word(out: &mut Vec<u8>, number: u64) -> Result<(), AllocError>
-    ensures { OnOk result (out.new.items ≡ out.old.items ++ low_bytes 4 number) }
-{
-    out.extend_from_slice(&number.to_le_bytes()[..4])
-}
-
-/// Adds the lowest 8 bytes of a number.
-#[tactic(auto, unfolding(crate::specs::Spelling::low_bytes))]
-fn put_long(out: &mut Vec<u8>, number: u128) -> Result<(), AllocError>
-    ensures { OnOk result (out.new.items ≡ out.old.items ++ low_bytes 8 number) }
-{
-    out.extend_from_slice(&number.to_le_bytes()[..8])
-}
 
 #[tactic(auto, unfolding(crate::specs::Spelling::descriptor_bytes))]
 fn put_descriptor(out: &mut Vec<u8>, d: Descriptor) -> Result<(), AllocError>
@@ -69,7 +53,8 @@ fn put_header(out: &mut Vec<u8>, count: u64) -> Result<(), AllocError>
 }
 
 fn put_descriptors(out: &mut Vec<u8>, descriptors: &[Descriptor]) -> Result<(), AllocError>
-    ensures { OnOk result (out.new.items ≡ out.old.items ++ flat_map descriptor_bytes descriptors.now) }
+    ensures { OnOk result
+        (out.new.items ≡ out.old.items ++ flat_map descriptor_bytes descriptors.now) }
 {
     for d in descriptors {
         put_descriptor(out, *d)?;

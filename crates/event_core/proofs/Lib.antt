@@ -3,4 +3,11 @@ pub mod StandingLemmas
 pub mod RangedLemmas
 pub mod SoundLemmas
 pub mod MapLemmas
+pub mod EarlyLemmas
 pub mod BootFacts
+pub mod RisingLemmas
+pub mod LocalLemmas
+pub mod BlockingLemmas
+pub mod IdleLemmas
+pub mod FrontLemmas
+pub mod CutFacts

@@ -70,7 +70,7 @@ pub placed-push : (boot : Boot) (history : List Moved) (m : Moved) → AllByRecu
 placed-push boot [] m placed here = (here, tt)
 placed-push boot (h ∷ history) m placed here = (placed.0, placed-push boot history m placed.1 here)
 
-same_place-Memory : (p : Place) → same_place place.Memory p ≡ true → p ≡ place.Memory
+pub same_place-Memory : (p : Place) → same_place place.Memory p ≡ true → p ≡ place.Memory
 same_place-Memory place.Memory h = refl
 same_place-Memory (place.Area a) h = cc
 same_place-Memory place.Own h = cc

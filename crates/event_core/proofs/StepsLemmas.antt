@@ -3,6 +3,7 @@ use Rattle.std.specs.Prelude.{◌⊎◌}
 use Rattle.std.proofs.lemmas.Bool.{cases_Bool}
 use Rattle.guest_base.specs.Ranges.{in_range}
 use Rattle.guest_base.specs.Levels.{level_pages}
+use Rattle.guest_base.proofs.RangeLemmas.{in_range-intro, in_range-elim}
 use Rattle.guest_base.proofs.SearchLemmas.{first_such-Some, each_such-true}
 use Rattle.guest_base.specs.declared.memory.Level.{Level}
 use Rattle.guest_base.specs.declared.memory.PageState.{PageState}
@@ -13,18 +14,16 @@ use Rattle.event_core.specs.Calls.{States, is_done, covers, after_call, state_af
 use Rattle.event_core.specs.Acceptance.{fits, levels_below, greatest_fitting, place_of_next, goes_on_at, tried_at, IsAcceptCall, AcceptanceSteps}
 use Rattle.event_core.specs.MemoryRows.{is_pending}
 
--- ranges as tests
-pub in_range-intro : (first count n : ℕ) → first ≤ n → n < first + count → in_range first count n ≡ true
-in_range-intro first count n low high = grind arith
-
-pub in_range-elim : (first count n : ℕ) → in_range first count n ≡ true → (first ≤ n) × (n < first + count)
-in_range-elim first count n h = grind arith
-
 pub pending-is : (s : Option PageState) → is_pending s ≡ true → s ≡ Some Pending
 pending-is None h = cc
 pending-is (Some Pending) h = refl
 pending-is (Some Accepted) h = cc
 pending-is (Some Shared) h = cc
+
+-- the state that is left of a page where a test fails is none
+pub pending-if : (b : Bool) (s : Option PageState) → is_pending (cond b s None) ≡ (b && is_pending s)
+pending-if true s = refl
+pending-if false s = refl
 
 -- a test behind another one
 pub second_of : (b c : Bool) → elim b as (λ _. Bool) [ true ↦ c | false ↦ false ] ≡ true → c ≡ true

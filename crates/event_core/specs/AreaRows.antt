@@ -11,7 +11,7 @@ use Rattle.event_core.specs.Pool.{run_found, device_address}
 
 -- What may happen in an area, after its entries (after swiotlb.c).
 
--- a processor looks in its own area first, and then in each next one, once round; so many were looked in before
+-- a processor looks in its own area first, and then in each next one, once round; the count is of those it looked in before
 abbrev pub area_looked_in : Boot → ℕ → ℕ → ℕ
 area_looked_in boot cpu looks = (cpu % boot.areas + looks) % boot.areas
 

@@ -1,5 +1,6 @@
 use Rattle.std.specs.Prelude.{ℕ, List, [], ◌∷◌, ◌++◌, Option, None, Some, Bool, true, false, not, ◌+◌, ◌*◌, ◌^◌, ◌==◌, ◌&&◌, nat_lt, is_some, fold, find, filter, if◌then◌else◌}
 use Rattle.std.specs.Option.{option_map_or}
+use Rattle.guest_base.specs.declared.limits.TheConstants.{PAGE_BYTES}
 use Rattle.guest_base.specs.Search.{first_such, any_such}
 use Rattle.guest_base.specs.declared.memory.Page.{Page}
 use Rattle.guest_base.specs.declared.memory.Pages.{Pages}
@@ -52,7 +53,7 @@ calls_before boot (Some pool) block = up_to_share boot.calls ++ calls_below (blo
 
 -- the guarded units of a block
 abbrev pub block_units : Boot → Block → Option Units
-block_units boot block = guarded_units boot (4096 * block.first) (4096 * 2 ^ block.order)
+block_units boot block = guarded_units boot (PAGE_BYTES * block.first) (PAGE_BYTES * 2 ^ block.order)
 
 -- a block of order 10 waits at boot where a bit of its guarded units is set when boot comes to it; boot accepts each smaller one
 unfoldable pub waits_at_boot : Boot → Block → Bool

@@ -21,6 +21,7 @@ use Rattle.event_core.specs.Acceptance.{AcceptanceSteps, stop_of}
 use Rattle.event_core.specs.MemoryRows.{page_state, is_pending, AcceptsUnits}
 use Rattle.event_core.specs.Cut.{cut}
 use Rattle.std.specs.Prelude.{◌&&◌}
+use Rattle.guest_base.specs.declared.limits.TheConstants.{PAGE_BYTES}
 
 -- What boot makes of a map, and of a table where one is handed in (the stub and the unaccepted bitmap after Linux's EFI stub; the pool and the blocks are own rules).
 
@@ -41,7 +42,7 @@ abbrev pub AcceptsPiece : Boot → List ModuleCall → Pages → List ModuleCall
 AcceptsPiece boot before pages calls stop =
     AcceptanceSteps boot.hosts (pending_piece boot before pages) (pages.first + pages.count) pages.first None calls × (stop ≡ stop_of calls)
 
--- the maximal runs of set bits of units from one on, at most so many
+-- the maximal runs of set bits of units from one on, at most this many
 abbrev pub runs_from : (ℕ → Bool) → ℕ → ℕ → ℕ → List Units
 runs_from test zero from end = []
 runs_from test (suc most) from end =
@@ -72,7 +73,7 @@ abbrev pub AcceptsBlock : Boot → List ModuleCall → Block → List ModuleCall
 AcceptsBlock boot before block calls stop =
     elim (block.order == 10) as (λ _. Type 0) [
       | true ↦ (calls ≡ []) × (stop ≡ None)
-      | false ↦ AcceptsRange boot before (4096 * block.first) (4096 * 2 ^ block.order) calls stop
+      | false ↦ AcceptsRange boot before (PAGE_BYTES * block.first) (PAGE_BYTES * 2 ^ block.order) calls stop
     ]
 
 -- the stages of boot
@@ -84,7 +85,7 @@ pub data Stage : Type 0 where
 
 abbrev pub StagePart : Boot → List ModuleCall → Stage → List ModuleCall → Option Page → Type 0
 StagePart boot before (Early pages) calls stop = AcceptsPiece boot before pages calls stop
-StagePart boot before (PoolAccepted pages) calls stop = AcceptsRange boot before (4096 * pages.first) (4096 * pages.count) calls stop
+StagePart boot before (PoolAccepted pages) calls stop = AcceptsRange boot before (PAGE_BYTES * pages.first) (PAGE_BYTES * pages.count) calls stop
 StagePart boot before (PoolShared pages) calls stop = SharesPool pages calls stop
 StagePart boot before (BlockAccepted block) calls stop = AcceptsBlock boot before block calls stop
 
@@ -97,7 +98,7 @@ pool_stages (Some pool) = PoolAccepted pool ∷ PoolShared pool ∷ []
 abbrev pub stages_of : Boot → List Pages → List Stage
 stages_of boot pieces = map Early pieces ++ pool_stages boot.pool ++ map BlockAccepted (cut boot)
 
--- a place from which so many pages are RAM
+-- a place from which this many pages are RAM
 abbrev pub HasRoom : Boot → ℕ → ℕ → Type 0
 HasRoom boot count first = (page : ℕ) → in_range first count page ≡ true → state_in boot.ram page ≢ None
 
@@ -117,8 +118,8 @@ pub record BootCalls (map : List Descriptor) (table : Option Bits) (boot : Boot)
   pub early : EarlyBy map table pieces
   pub stages : InTurn (StagePart boot) [] (stages_of boot pieces) calls stop
 
--- what boot makes of a map, a table or none, the slots and areas asked for, and the number of processors
-pub record BootRight (map : List Descriptor) (hosts : List HostRun) (table : Option Bits) (slots areas cpus : ℕ) (boot : Boot) : Type 0 where
+-- what boot makes of a map, a table or none, the slots and areas asked for, and the number of processors, before its calls
+pub record Uncalled (map : List Descriptor) (hosts : List HostRun) (table : Option Bits) (slots areas cpus : ℕ) (boot : Boot) : Type 0 where
   pub ram : AreMaximalRuns (first_by map table) boot.ram
   pub same_hosts : boot.hosts ≡ hosts
   pub unit : boot.unit ≡ unit_by table
@@ -129,4 +130,32 @@ pub record BootRight (map : List Descriptor) (hosts : List HostRun) (table : Opt
   pub same_areas : boot.areas ≡ areas
   pub raised : boot.slots ≡ (if slots == 0 then 0 else raised_slots slots areas)
   pub pool : PoolPlaced boot boot.pool
+
+-- the boot of a map came to its end
+pub record BootRight (map : List Descriptor) (hosts : List HostRun) (table : Option Bits) (slots areas cpus : ℕ) (boot : Boot) : Type 0 where
+  pub uncalled : Uncalled map hosts table slots areas cpus boot
   pub made : BootCalls map table boot boot.calls None
+
+-- the boot of a map made these calls, and stopped at the page
+pub record BootStopped (map : List Descriptor) (hosts : List HostRun) (table : Option Bits) (slots areas cpus : ℕ) (calls : List ModuleCall) (page : Page) : Type 0 where
+  pub boot : Boot
+  pub uncalled : Uncalled map hosts table slots areas cpus boot
+  pub made : BootCalls map table boot calls (Some page)
+
+-- these calls are a front of a part's: with later calls they are all of them, whether the part
+-- stops or comes to its end
+abbrev pub IsFront : (List ModuleCall → Option Page → Type 0) → List ModuleCall → Type 0
+IsFront Part calls = (later : List ModuleCall) × (stop : Option Page) × Part (calls ++ later) stop
+
+-- a boot of the map goes on from these calls, until it stops or comes to its end
+pub record BootGoesOn (map : List Descriptor) (hosts : List HostRun) (table : Option Bits)
+    (slots areas cpus : ℕ) (calls : List ModuleCall) : Type 0 where
+  pub boot : Boot
+  pub uncalled : Uncalled map hosts table slots areas cpus boot
+  pub front : IsFront (BootCalls map table boot) calls
+
+-- no call was made, or a boot of the map goes on from those that were
+abbrev pub BootFront :
+    List Descriptor → List HostRun → Option Bits → ℕ → ℕ → ℕ → List ModuleCall → Type 0
+BootFront map hosts table slots areas cpus calls =
+    (calls ≡ []) ⊎ BootGoesOn map hosts table slots areas cpus calls

@@ -35,7 +35,7 @@ without_pool (Some pool) range =
     then pages_between range.first pool.first ++ pages_between (pages_end pool) (pages_end range)
     else range ∷ []
 
--- a block of an order may stand at a page: the page is a multiple of the block's pages, and so many are left
+-- a block of an order may stand at a page: the page is a multiple of the block's pages, and as many are left as it has
 abbrev pub may_stand : ℕ → ℕ → ℕ → Bool
 may_stand first left order = (first % 2 ^ order == 0) && nat_le (2 ^ order) left
 

@@ -1,4 +1,5 @@
 use Rattle.std.specs.Prelude.{ℕ, List, [], ◌∷◌, ◌++◌, None, Some, Bool, false, ◌≡◌, ◌+◌, ◌*◌, ◌<◌, ◌==◌, ◌&&◌, count_by}
+use Rattle.guest_base.specs.declared.limits.TheConstants.{PAGE_BYTES}
 use Rattle.guest_base.specs.Requests.{request_of}
 use Rattle.guest_base.specs.Slots.{fits_at}
 use Rattle.guest_base.specs.declared.transfer.Request.{Request}
@@ -39,4 +40,4 @@ pub record FullOnlyWhereFull (boot : Boot) (scripts : List (List Command)) (entr
   pub empty : (before : List Entry) (entry : Entry) (mapping name : List ℕ) (off len mask area : ℕ) (direction : _) (h : Holding)
       → StandsAt scripts entries before entry (command.Map mapping name off len direction mask) → entry.event ≡ Looked area None
       → block_named (own_before boot scripts before entry) name ≡ Some h
-      → NothingFits boot (entries_of (place_before boot scripts before entry)) (request_of (4096 * h.block.first + off) len mask)
+      → NothingFits boot (entries_of (place_before boot scripts before entry)) (request_of (PAGE_BYTES * h.block.first + off) len mask)

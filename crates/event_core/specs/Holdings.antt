@@ -1,5 +1,6 @@
 use Rattle.std.specs.Prelude.{ℕ, List, Option, Bool, true, false, ◌^◌, ◌*◌, ◌==◌, ◌&&◌, bytes_eq, find}
 use Rattle.std.specs.List.{list_any}
+use Rattle.guest_base.specs.declared.limits.TheConstants.{PAGE_BYTES}
 use Rattle.guest_base.specs.declared.memory.Block.{Block}
 use Rattle.guest_base.specs.declared.transfer.Direction.{Direction}
 use Rattle.guest_base.specs.declared.transfer.Direction.TheVariants.{ToDevice, FromDevice, Both}
@@ -58,7 +59,7 @@ is_mapped own block = list_any (λ (m : Mapping). same_block m.block block) own.
 
 -- the size of a block in bytes
 abbrev pub block_bytes : Block → ℕ
-block_bytes block = 4096 * 2 ^ block.order
+block_bytes block = PAGE_BYTES * 2 ^ block.order
 
 -- a direction asks for copies from the block into the pool, or out of the pool into the block (after swiotlb.c)
 abbrev pub asks_in : Direction → Bool

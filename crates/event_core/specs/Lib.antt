@@ -17,6 +17,7 @@ pub mod FullOnlyWhereFull
 pub mod Given
 pub mod Holdings
 pub mod Legal
+pub mod Locally
 pub mod Map
 pub mod MemoryRows
 pub mod Moved

@@ -1,5 +1,6 @@
 use Rattle.std.specs.Prelude.{ℕ, List, Option, None, Some, Bool, ◌≡◌, ◌≢◌, ◌+◌, ◌*◌, ◌/◌, ◌%◌, ◌^◌, ◌<◌, ◌≤◌, ◌&&◌, ◌||◌, ◌==◌, nat_le, true, sum_by, All, if◌then◌else◌}
 use Rattle.std.specs.List.{list_any, AllPairs}
+use Rattle.guest_base.specs.declared.limits.TheConstants.{PAGE_BYTES, ADDRESS_END, PAGE_END}
 use Rattle.guest_base.specs.Ranges.{in_range}
 use Rattle.guest_base.specs.declared.memory.PageState.{PageState}
 use Rattle.guest_base.specs.declared.memory.PageState.TheVariants.{Pending, Accepted}
@@ -16,7 +17,7 @@ is_ram d = (nat_le 1 d.kind && nat_le d.kind 4) || ((d.kind == 7) || (d.kind == 
 
 -- the page lies in the descriptor
 abbrev pub holds_page : ℕ → Descriptor → Bool
-holds_page page d = in_range (d.start / 4096) d.pages page
+holds_page page d = in_range (d.start / PAGE_BYTES) d.pages page
 
 -- the page lies in unaccepted memory, or in RAM
 abbrev pub unaccepted_page : List Descriptor → ℕ → Bool
@@ -32,7 +33,7 @@ first_state map page = if unaccepted_page map page then Some Pending else (if ra
 
 -- the end of a descriptor, in bytes
 abbrev pub descriptor_end : Descriptor → ℕ
-descriptor_end d = d.start + 4096 * d.pages
+descriptor_end d = d.start + PAGE_BYTES * d.pages
 
 -- the pages of RAM that a descriptor gives
 abbrev pub ram_pages : Descriptor → ℕ
@@ -42,16 +43,16 @@ ram_pages d = if is_ram d then d.pages else 0
 pub record IsDescriptor (d : Descriptor) : Type 0 where
   pub kind : d.kind < 2 ^ 32
   pub some : 0 < d.pages
-  pub aligned : d.start % 4096 ≡ 0
-  pub below : descriptor_end d ≤ (if is_ram d then 2 ^ 40 else 2 ^ 64)
+  pub aligned : d.start % PAGE_BYTES ≡ 0
+  pub below : descriptor_end d ≤ (if is_ram d then ADDRESS_END else 2 ^ 64)
 
 -- two descriptors have no byte in common
 abbrev pub AreApart : Descriptor → Descriptor → Type 0
-AreApart a b = (byte : ℕ) → in_range a.start (4096 * a.pages) byte ≡ true → in_range b.start (4096 * b.pages) byte ≢ true
+AreApart a b = (byte : ℕ) → in_range a.start (PAGE_BYTES * a.pages) byte ≡ true → in_range b.start (PAGE_BYTES * b.pages) byte ≢ true
 
 -- what holds of each host record: it has pages and ends within 2^28 pages
 abbrev pub IsHostRecord : HostRun → Type 0
-IsHostRecord h = (0 < h.pages.count) × (h.pages.first + h.pages.count ≤ 2 ^ 28)
+IsHostRecord h = (0 < h.pages.count) × (h.pages.first + h.pages.count ≤ PAGE_END)
 
 -- two host records have no page in common
 abbrev pub AreHostsApart : HostRun → HostRun → Type 0

@@ -1,5 +1,6 @@
 use Rattle.std.specs.Prelude.{ℕ, List, Option, None, Some, Bool, true, false, not, ◌&&◌, ◌+◌, ◌*◌, length, if◌then◌else◌}
 use Rattle.std.specs.Option.{option_and_then, option_map}
+use Rattle.guest_base.specs.declared.limits.TheConstants.{PAGE_BYTES}
 use Rattle.guest_base.specs.Requests.{request_of}
 use Rattle.guest_base.specs.declared.memory.Page.{Page}
 use Rattle.guest_base.specs.declared.memory.Units.{Units}
@@ -69,7 +70,7 @@ accept_step boot memory (Some claim) units calls = Some (record {
 
 -- an allocation ends with a block's address, without a block, or where the acceptance of a waiting block stopped
 abbrev pub alloc_reply : Event → Option Reply
-alloc_reply (event.Got block) = Some (reply.Addr (4096 * block.first))
+alloc_reply (event.Got block) = Some (reply.Addr (PAGE_BYTES * block.first))
 alloc_reply event.NoBlock = Some reply.NoBlock
 alloc_reply _ = None
 
@@ -150,7 +151,7 @@ unrefused_step boot cpu own there (command.Share name) calls = option_and_then (
 unrefused_step boot cpu own there (command.Private name) calls = option_and_then (λ h. convert_step boot (entries_of there) own.converting h.block Accepted calls) (block_named own name)
 unrefused_step boot cpu own there (command.Giveback name) calls = option_and_then (λ h. convert_step boot (entries_of there) own.converting h.block Pending calls) (block_named own name)
 unrefused_step boot cpu own there (command.Map mapping name off len direction mask) calls =
-    option_and_then (λ h. look_step boot (entries_of there) cpu own.looks (request_of (4096 * h.block.first + off) len mask)) (block_named own name)
+    option_and_then (λ h. look_step boot (entries_of there) cpu own.looks (request_of (PAGE_BYTES * h.block.first + off) len mask)) (block_named own name)
 unrefused_step boot cpu own there (command.SyncDev mapping off len) calls = option_and_then (λ m. copy_step (asks_in m.direction) (event.CopiedIn m.run off len)) (mapping_named own mapping)
 unrefused_step boot cpu own there (command.SyncCpu mapping off len) calls = option_and_then (λ m. copy_step (asks_out m.direction) (event.CopiedOut m.run off len)) (mapping_named own mapping)
 unrefused_step boot cpu own there (command.Unmap mapping skip) calls = option_and_then (λ m. replied_by (event.Released m.run (asks_out m.direction && not skip)) reply.Done) (mapping_named own mapping)

@@ -1,6 +1,7 @@
 use Rattle.std.specs.Prelude.{ℕ, List, [], ◌∷◌, Option, Some, Bool, not, ◌+◌, ◌*◌, ◌/◌, ◌==◌, ◌&&◌, fold, filter}
 use Rattle.std.specs.Option.{option_map, option_map_or}
 use Rattle.std.specs.List.{list_any}
+use Rattle.guest_base.specs.declared.limits.TheConstants.{SLOT_BYTES, PAGE_BYTES}
 use Rattle.guest_base.specs.Ranges.{in_range}
 use Rattle.guest_base.specs.Slots.{choose, hint_after}
 use Rattle.guest_base.specs.declared.memory.Pages.{Pages}
@@ -19,15 +20,15 @@ area_slots boot = boot.slots / boot.areas
 
 -- the area in which an offset from the pool's start lies
 abbrev pub area_of_offset : Boot → ℕ → ℕ
-area_of_offset boot off = off / (2048 * area_slots boot)
+area_of_offset boot off = off / (SLOT_BYTES * area_slots boot)
 
 -- where byte i of a mapping stands, counted from the pool's start
 abbrev pub pool_place : Boot → SlotRun → ℕ → ℕ
-pool_place boot run i = (run.area * area_slots boot + run.first) * 2048 + run.offset + i
+pool_place boot run i = (run.area * area_slots boot + run.first) * SLOT_BYTES + run.offset + i
 
 -- the address of a mapping's first byte, for the device
 abbrev pub device_address : Boot → SlotRun → ℕ
-device_address boot run = option_map_or (λ (pool : Pages). 4096 * pool.first) boot.pool 0 + pool_place boot run 0
+device_address boot run = option_map_or (λ (pool : Pages). PAGE_BYTES * pool.first) boot.pool 0 + pool_place boot run 0
 
 abbrev pub same_run : SlotRun → SlotRun → Bool
 same_run a b = (a.area == b.area) && ((a.first == b.first) && ((a.count == b.count) && ((a.offset == b.offset) && (a.len == b.len))))

@@ -1,4 +1,5 @@
 use Rattle.std.specs.Prelude.{ℕ, List, ◌≡◌, ◌⊎◌, ◌^◌, ◌<◌, ◌≤◌, length, sum_by, All}
+use Rattle.guest_base.specs.declared.limits.TheConstants.{MAX_COMMANDS, MAX_NAMED_BYTES, MAX_HEX_BYTES, MAX_ORDER}
 use Rattle.event_core.specs.declared.command.Command.{Command}
 use Rattle.event_core.specs.declared.command.Command.TheVariants.{Alloc, Free, Accept, Query, Read, Write, Fill, Load, Share, Private, Giveback, Map, SyncDev, SyncCpu, Unmap, DRead, DWrite, HostRead, HostWrite}
 use Rattle.event_core.specs.Name.{IsName}
@@ -12,7 +13,7 @@ IsNumber n = n < 2 ^ 64
 -- bytes that are written out are 1 to 262,144
 pub record IsHex (hex : List ℕ) : Type 0 where
   pub some : 1 ≤ length hex
-  pub few : length hex ≤ 262144
+  pub few : length hex ≤ MAX_HEX_BYTES
   pub each : All (λ b. b < 256) hex
 
 -- a mask keeps no bit of an address, or those below a page
@@ -21,7 +22,7 @@ IsMask mask = (mask ≡ 0) ⊎ (mask ≡ 4095)
 
 -- the fields of a command keep the limits
 abbrev pub IsReadable : Command → Type 0
-IsReadable (Alloc name order) = IsName name × (order ≤ 10)
+IsReadable (Alloc name order) = IsName name × (order ≤ MAX_ORDER)
 IsReadable (Free name) = IsName name
 IsReadable (Accept start len) = IsNumber start × IsNumber len
 IsReadable (Query start len) = IsNumber start × IsNumber len
@@ -57,6 +58,6 @@ bytes_named _ = 0
 
 -- A script that can be read: it has few enough commands, each of them can be written, and together they name few enough bytes.
 pub record ReadableScript (script : List Command) : Type 0 where
-  pub few : length script ≤ 2048
+  pub few : length script ≤ MAX_COMMANDS
   pub each : All IsReadable script
-  pub named : sum_by bytes_named script ≤ 4194304
+  pub named : sum_by bytes_named script ≤ MAX_NAMED_BYTES

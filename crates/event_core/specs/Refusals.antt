@@ -1,4 +1,5 @@
 use Rattle.std.specs.Prelude.{ℕ, Option, None, Some, Bool, not, ◌+◌, ◌-◌, ◌*◌, ◌^◌, ◌==◌, nat_lt, nat_le, is_some, is_none, length, if◌then◌else◌}
+use Rattle.guest_base.specs.declared.limits.TheConstants.{ADDRESS_END, SLOT_BYTES, PAGE_BYTES}
 use Rattle.guest_base.specs.Requests.{too_long}
 use Rattle.guest_base.specs.declared.memory.Block.{Block}
 use Rattle.event_core.specs.declared.boot.Boot.{Boot}
@@ -18,7 +19,7 @@ refuse reply condition others = if condition then Some reply else others
 
 -- a range of memory has a byte and ends within 2^40
 abbrev pub memory_range_refusal : ℕ → ℕ → Option Reply
-memory_range_refusal start len = refuse Zero (len == 0) (refuse Range (nat_lt (2 ^ 40) (start + len)) None)
+memory_range_refusal start len = refuse Zero (len == 0) (refuse Range (nat_lt ADDRESS_END (start + len)) None)
 
 -- the processor has no block, or no mapping, of the name; else what its conditions say
 abbrev pub unknown_or : {A : Type 0} → Option A → (A → Option Reply) → Option Reply
@@ -36,14 +37,14 @@ if_private PrivateBlock = Some IsPrivate
 if_private SharedBlock = None
 if_private HalfBlock = None
 
--- a range passes the end of what it lies in, of so many bytes
+-- a range passes the end of what it lies in, of this many bytes
 abbrev pub past_end : ℕ → ℕ → ℕ → Option Reply
 past_end size off len = refuse Range (nat_lt size (off + len)) None
 
 -- a host's access passes the end of the pool or lies in more than one area
 abbrev pub pool_refusal : Boot → ℕ → ℕ → Option Reply
 pool_refusal boot off len =
-    refuse Range (nat_lt (2048 * boot.slots) (off + len))
+    refuse Range (nat_lt (SLOT_BYTES * boot.slots) (off + len))
     (refuse Range (not (area_of_offset boot off == area_of_offset boot (off + len - 1))) None)
 
 -- a block that is given back is a whole block of order 10, and each of its pages lies in a unit of the bitmap
@@ -56,7 +57,7 @@ map_refusal boot h off len mask =
     unless_private h.sharing
     (refuse Zero (len == 0)
     (refuse Range (nat_lt (block_bytes h.block) (off + len))
-    (refuse TooLong (too_long (4096 * h.block.first + off) len mask) (refuse NoPool (is_none boot.pool) None))))
+    (refuse TooLong (too_long (PAGE_BYTES * h.block.first + off) len mask) (refuse NoPool (is_none boot.pool) None))))
 
 -- the first refusal of a command of a processor that has this
 abbrev pub refusal_of : Boot → Own → Command → Option Reply

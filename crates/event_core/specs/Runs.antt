@@ -13,6 +13,13 @@ run_holds page run = in_range run.pages.first run.pages.count page
 abbrev pub run_end : PageRun → ℕ
 run_end run = run.pages.first + run.pages.count
 
+-- a run with the pages of the next one, which goes on where it ends
+abbrev pub grown : PageRun → PageRun → PageRun
+grown last next = record {
+  pages = record { first = last.pages.first; count = last.pages.count + next.pages.count };
+  state = last.state;
+}
+
 -- the state that a page has by runs: that of the first run that holds it, and none where no run does
 abbrev pub state_in : List PageRun → ℕ → Option PageState
 state_in runs page = option_map (λ (run : PageRun). run.state) (find (run_holds page) runs)

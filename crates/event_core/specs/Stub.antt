@@ -1,5 +1,6 @@
 use Rattle.std.specs.Prelude.{ℕ, List, [], ◌∷◌, ◌++◌, Bool, false, ◌≡◌, ◌+◌, ◌-◌, ◌*◌, ◌/◌, ◌<◌, ◌&&◌, nat_lt, nat_le, filter, fold, min, max, if◌then◌else◌, IsPermutation}
 use Rattle.std.specs.List.{list_any, flat_map}
+use Rattle.guest_base.specs.declared.limits.TheConstants.{PAGE_BYTES}
 use Rattle.guest_base.specs.declared.memory.Pages.{Pages}
 use Rattle.event_core.specs.declared.boot.Descriptor.{Descriptor}
 use Rattle.event_core.specs.Map.{is_unaccepted, descriptor_end}
@@ -39,7 +40,7 @@ stub_length map =
 
 -- a descriptor shorter than two units is accepted at once, whole
 abbrev pub is_short : Descriptor → Bool
-is_short d = nat_lt (4096 * d.pages) (2 * default_unit)
+is_short d = nat_lt (PAGE_BYTES * d.pages) (2 * default_unit)
 
 -- the unit that begins at an address lies wholly in the descriptor
 abbrev pub holds_unit : ℕ → Descriptor → Bool
@@ -52,7 +53,7 @@ stub_bit map unit =
 
 -- the pages from one address up to another, where there are any
 abbrev pub piece : ℕ → ℕ → List Pages
-piece from to = if nat_lt from to then record { first = from / 4096; count = (to - from) / 4096 } ∷ [] else []
+piece from to = if nat_lt from to then record { first = from / PAGE_BYTES; count = (to - from) / PAGE_BYTES } ∷ [] else []
 
 -- the pieces of a descriptor that are accepted at once: all of a short one, else its unaligned front and tail
 abbrev pub early_of : Descriptor → List Pages

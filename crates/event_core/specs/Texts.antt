@@ -1,6 +1,7 @@
 use Rattle.std.specs.Prelude.{ℕ, ◌+◌, ◌*◌, ◌/◌, ◌%◌, true, false, List, [], ◌∷◌, ◌++◌, codes, Option, None, Some}
 use Rattle.std.specs.List.{flat_map}
 use Rattle.std.specs.Fmt.{decimal, digits, digit_glyph}
+use Rattle.guest_base.specs.declared.limits.TheConstants.{PAGE_BYTES}
 use Rattle.guest_base.specs.declared.memory.PageState.{PageState}
 use Rattle.guest_base.specs.declared.memory.PageState.TheVariants.{Pending, Accepted, Shared}
 use Rattle.guest_base.specs.declared.memory.PageRun.{PageRun}
@@ -77,7 +78,7 @@ processors_text cpu (replies ∷ others) = processor_text cpu replies ++ process
 
 -- a run of pages: its first address, the first address after it, and its state
 abbrev pub page_run_text : PageRun → List ℕ
-page_run_text run = line (address_text (4096 * run.pages.first) ++ codes "-" ++ address_text (4096 * (run.pages.first + run.pages.count)) ++ codes " " ++ state_text run.state)
+page_run_text run = line (address_text (PAGE_BYTES * run.pages.first) ++ codes "-" ++ address_text (PAGE_BYTES * (run.pages.first + run.pages.count)) ++ codes " " ++ state_text run.state)
 
 -- the section of the pages
 abbrev pub pages_text : List PageRun → List ℕ

@@ -1,5 +1,6 @@
 use Rattle.std.specs.Prelude.{ℕ, List, [], ◌∷◌, Option, None, Some, true, ◌+◌, ◌-◌, ◌*◌, ◌/◌, ◌^◌, length, min}
 use Rattle.std.specs.Option.{option_map_or}
+use Rattle.guest_base.specs.declared.limits.TheConstants.{PAGE_BYTES}
 use Rattle.guest_base.specs.declared.memory.Pages.{Pages}
 use Rattle.guest_base.specs.declared.memory.Block.{Block}
 use Rattle.event_core.specs.declared.boot.Boot.{Boot}
@@ -14,11 +15,11 @@ use Rattle.event_core.specs.Refusals.{refusal_of}
 -- The pages that an entry touches as private memory of the guest (own rule): to hand out a block every page of it is zeroed, reads
 -- and writes touch the pages of their bytes, and so do copies into and out of the pool, on the block's side.
 
--- the pages of so many bytes of a block from an offset on
+-- the pages of this many bytes of a block from an offset on
 abbrev pub pages_of_bytes : Block → ℕ → ℕ → Pages
 pages_of_bytes block off len =
-    let start = 4096 * block.first + off in
-    record { first = start / 4096; count = (start + len + 4095) / 4096 - start / 4096 }
+    let start = PAGE_BYTES * block.first + off in
+    record { first = start / PAGE_BYTES; count = (start + len + 4095) / PAGE_BYTES - start / PAGE_BYTES }
 
 abbrev pub in_named : Own → List ℕ → ℕ → ℕ → List Pages
 in_named own name off len = option_map_or (λ (h : Holding). pages_of_bytes h.block off len ∷ []) (block_named own name) []

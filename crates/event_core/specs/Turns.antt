@@ -28,7 +28,7 @@ TakenIn boot scripts history (cpu ∷ turns) (entry ∷ taken) =
           × TakenIn boot scripts (history ++ with_bytes boot scripts history entry ∷ []) turns taken
     ]
 
--- so many numbers from one on
+-- this many numbers from one on
 abbrev pub numbers_from : ℕ → ℕ → List ℕ
 numbers_from from zero = []
 numbers_from from (suc count) = from ∷ numbers_from (from + 1) count

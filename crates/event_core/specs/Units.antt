@@ -1,5 +1,6 @@
 use Rattle.std.specs.Prelude.{ℕ, List, Option, None, Some, Bool, true, false, ◌+◌, ◌-◌, ◌*◌, ◌/◌, ◌%◌, ◌==◌, ◌&&◌, nat_lt, nat_le, fold, length, slice_index, max, min, if◌then◌else◌}
 use Rattle.std.specs.Int.{bit_at}
+use Rattle.guest_base.specs.declared.limits.TheConstants.{PAGE_BYTES}
 use Rattle.guest_base.specs.Search.{first_such, any_such, count_such, row_length}
 use Rattle.guest_base.specs.declared.memory.Units.{Units}
 use Rattle.event_core.specs.declared.boot.Boot.{Boot}
@@ -20,10 +21,10 @@ bit_of bits unit = nat_lt unit (unit_count bits) && (bit_at (slice_index bits (u
 
 -- the pages of a unit, and the first of them
 abbrev pub unit_pages : Boot → ℕ
-unit_pages boot = boot.unit / 4096
+unit_pages boot = boot.unit / PAGE_BYTES
 
 abbrev pub unit_first : Boot → ℕ → ℕ
-unit_first boot unit = boot.base / 4096 + unit * unit_pages boot
+unit_first boot unit = boot.base / PAGE_BYTES + unit * unit_pages boot
 
 -- the units from the one that holds the byte start up to the one that holds the byte before end, both counted from the base
 abbrev pub units_between : ℕ → ℕ → ℕ → Option Units

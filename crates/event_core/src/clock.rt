@@ -4,7 +4,7 @@ ghost use Rattle.std.specs.Prelude.{◌≡◌, ◌+◌, ◌^◌, ◌<◌, max};
 /// Why a step can't be prepared.
 #[derive(Clone, Copy, Debug, PartialEq, Eq)]
 pub enum NoRoom {
-    /// Want of memory.
+    /// Out of memory.
     NoMemory,
     /// A stamp of 2^64 or more was reached.
     Worn(u128),

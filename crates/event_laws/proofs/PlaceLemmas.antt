@@ -1,9 +1,10 @@
 -- Where the calls lie that accept runs of units.
-use Rattle.std.proofs.Common.{◌≡◌, ℕ, zero, suc, ◌+◌, ◌-◌, ◌*◌, ◌/◌, ◌%◌, ◌<◌, ◌≤◌, min, max, Bool, true, false, ◌&&◌, Option, None, Some, List, [], ◌∷◌, refl, sym, ◌∙◌, ap, subst, inl, inr, arith, nat_lt, ◌==◌, eqb-true}
+use Rattle.std.proofs.Common.{◌≡◌, ℕ, zero, suc, ◌+◌, ◌-◌, ◌*◌, ◌/◌, ◌%◌, ◌<◌, ◌≤◌, min, max, Bool, true, Option, None, Some, List, [], ◌∷◌, refl, sym, ◌∙◌, ap, subst, inl, inr, arith, nat_lt, ◌==◌, eqb-true}
 use Rattle.std.specs.List.{AllByRecursion}
 use Rattle.std.proofs.lemmas.Bool.{cases_Bool, cases_lt}
 use Rattle.std.proofs.lemmas.Bool.Decides.{nat_tests}
 use Rattle.std.proofs.Math.Nat.{mul-le-mul_right, le-div_iff_mul-le, div-mul-le_self}
+use Rattle.std.proofs.lemmas.Bool.{and_parts}
 use Rattle.guest_base.specs.Levels.{level_pages}
 use Rattle.guest_base.specs.Search.{first_such, row_length}
 use Rattle.guest_base.proofs.RangeLemmas.{in_range-elim}
@@ -22,7 +23,8 @@ use Rattle.event_core.specs.Calls.{covers}
 use Rattle.event_core.specs.MemoryRows.{pending_in, pages_first, pages_count}
 use Rattle.event_core.specs.Units.{unit_first, unit_pages, units_between, with_guard, guarded, guarded_units, first_run, run_at, units_end, bit_after}
 use Rattle.event_core.proofs.StepsLemmas.{fits-set, greatest_fitting-fits, steps-covers}
-use Rattle.event_laws.proofs.TurnLemmas.{in-turn-each, all-map}
+use Rattle.event_core.proofs.BootFacts.{in-turn-each}
+use Rattle.event_laws.proofs.TurnLemmas.{all-map}
 
 -- ---- acceptance steps
 
@@ -57,10 +59,6 @@ pub record Begins (from end : ℕ) (call : ModuleCall) : Type 0 where
   pub low : from ≤ call.first
   pub high : call.first < end
 
-first-both : (b c : Bool) → (b && c) ≡ true → b ≡ true
-first-both true c h = refl
-first-both false c h = cc
-
 mul-up : (a b u : ℕ) → a ≤ b → a * u ≤ b * u
 mul-up a b u less = mul-le-mul_right u less
 
@@ -69,7 +67,7 @@ unfolding pending_in
 run-begins boot before run from end calls stop low high part =
     all-map (LiesIn (pending_in boot before run)) (Begins (unit_first boot from) (unit_first boot end))
     (λ call lies.
-    let within = in_range-elim (pages_first boot run) (pages_count boot run) call.first (first-both _ _ lies.first) in
+    let within = in_range-elim (pages_first boot run) (pages_count boot run) call.first (and_parts _ _ lies.first).0 in
     let at = within.0 in
     let before_end = within.1 in
     let less = mul-up from run.first (unit_pages boot) low in

@@ -1,5 +1,5 @@
 -- The cut of RAM into blocks rises, and each block stands on a multiple of its pages.
-use Rattle.std.proofs.Common.{◌≡◌, ◌≢◌, ℕ, zero, suc, ◌+◌, ◌-◌, ◌%◌, ◌^◌, ◌<◌, ◌≤◌, true, Option, None, Some, List, [], ◌∷◌, ◌++◌, refl, sym, subst, arith, inl, inr, eqb-true, eq-eqb, ne_eqb, ◌==◌, ◌&&◌, nat_le, nat_lt}
+use Rattle.std.proofs.Common.{◌≡◌, ℕ, zero, suc, ◌+◌, ◌-◌, ◌%◌, ◌^◌, ◌≤◌, true, Option, None, Some, List, [], ◌∷◌, ◌++◌, sym, subst, arith, inl, inr, eqb-true, ◌==◌, ◌&&◌, nat_le, nat_lt}
 use Rattle.std.specs.List.{AllPairs, AllByRecursion, flat_map}
 use Rattle.std.proofs.lemmas.Bool.{cases_Bool, cases_lt}
 use Rattle.std.proofs.lemmas.Bool.Decides.{nat_tests}
@@ -8,6 +8,8 @@ use Rattle.guest_base.specs.declared.memory.Block.{Block}
 use Rattle.guest_base.specs.declared.memory.PageRun.{PageRun}
 use Rattle.event_core.specs.declared.boot.Boot.{Boot}
 use Rattle.event_core.specs.Cut.{pages_end, joined, ram_ranges, pages_between, without_pool, may_stand, order_at, blocks_from, blocks_of, cut}
+use Rattle.event_core.proofs.CutFacts.{order-fits, blocks-none, blocks-some}
+use Rattle.event_core.proofs.EarlyLemmas.{pairs-tail}
 use Rattle.event_core.specs.Runs.{run_end, GoesBefore}
 
 -- ---- blocks that rise
@@ -69,27 +71,6 @@ order-stands first left (suc most) =
     stands : (first left order : ℕ) → may_stand first left order ≡ true → first % 2 ^ order ≡ 0
     stands first left order may = grind (arith, nat_tests)
 
-may-fits : (first left order : ℕ) → may_stand first left order ≡ true → 2 ^ order ≤ left
-may-fits first left order may = grind (arith, nat_tests)
-
-order-fits : (first left most : ℕ) → 0 < left → 2 ^ order_at first left most ≤ left
-unfolding order_at
-order-fits first left zero some = omega arith
-order-fits first left (suc most) some =
-    elim (cases_Bool (may_stand first left (suc most))) [
-      | inl may ↦ rw may (may-fits first left (suc most) may)
-      | inr not ↦ rw not (order-fits first left most some)
-    ]
-
-blocks-none : (most first left : ℕ) → left ≡ 0 → blocks_from most first left ≡ []
-unfolding blocks_from
-blocks-none zero first left none = refl
-blocks-none (suc most) first left none = rw (eq-eqb left 0 none, blocks_from) refl
-
-blocks-some : (most first left : ℕ) → left ≢ 0 → blocks_from (suc most) first left ≡ record { first = first; order = order_at first left 10 } ∷ blocks_from most (first + 2 ^ order_at first left 10) (left - 2 ^ order_at first left 10)
-unfolding blocks_from
-blocks-some most first left some = rw (ne_eqb left 0 some, blocks_from) refl
-
 blocks-rise : (end most first left : ℕ) → first + left ≤ end → RiseTo first end (blocks_from most first left)
 unfolding blocks_from
 blocks-rise end zero first left low = omega arith
@@ -131,9 +112,6 @@ abbrev FromOn : ℕ → List PageRun → Type 0
 FromOn from [] = Unit {0}
 FromOn from (run ∷ runs) = from ≤ run.pages.first
 
-pairs-tail : (run : PageRun) (runs : List PageRun) → AllPairs GoesBefore (run ∷ runs) → AllPairs GoesBefore runs
-pairs-tail run runs pairs i j e lt high = pairs (suc i) (suc j) e (omega arith) (omega arith)
-
 next-from : (run : PageRun) (runs : List PageRun) → AllPairs GoesBefore (run ∷ runs) → FromOn (run_end run) runs
 next-from run [] pairs = tt
 next-from run (next ∷ runs) pairs = (pairs 0 1 run (omega arith) (omega arith)).ends
@@ -141,7 +119,7 @@ next-from run (next ∷ runs) pairs = (pairs 0 1 run (omega arith) (omega arith)
 ram-rises : (from : ℕ) (runs : List PageRun) → FromOn from runs → AllPairs GoesBefore runs → (to : ℕ) × RangesTo from to (ram_ranges runs)
 ram-rises from [] low pairs = (from, omega arith)
 ram-rises from (run ∷ runs) low pairs =
-    let rest = ram-rises (run_end run) runs (next-from run runs pairs) (pairs-tail run runs pairs) in
+    let rest = ram-rises (run_end run) runs (next-from run runs pairs) (pairs-tail GoesBefore run runs pairs) in
     (rest.0, ranges-joined from rest.0 run.pages (ram_ranges runs) low rest.1)
 
 -- ---- without the pool

@@ -5,7 +5,7 @@ use Rattle.guest_base.specs.declared.memory.Block.{Block}
 use Rattle.event_core.specs.declared.boot.Boot.{Boot}
 use Rattle.event_core.specs.Boot.{Stage, Early, BlockAccepted, pool_stages, stages_of}
 use Rattle.event_core.specs.Cut.{cut}
-use Rattle.event_laws.proofs.TurnLemmas.{all-append}
+use Rattle.event_core.proofs.BootFacts.{all-append}
 
 -- What stands before a block among the stages of boot, and behind it.
 

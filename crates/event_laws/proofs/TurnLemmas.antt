@@ -10,21 +10,9 @@ use Rattle.event_core.specs.Boot.{InTurn}
 abbrev pub Parts : Type 0 → Type 1
 Parts Item = List ModuleCall → Item → List ModuleCall → Option Page → Type 0
 
-pub all-append : {A : Type 0} (P : A → Type 0) (xs ys : List A) → AllByRecursion P xs → AllByRecursion P ys → AllByRecursion P (xs ++ ys)
-all-append P [] ys left right = right
-all-append P (x ∷ xs) ys left right = (left.0, all-append P xs ys left.1 right)
-
 pub all-map : {A : Type 0} (P Q : A → Type 0) → ((x : A) → P x → Q x) → (xs : List A) → AllByRecursion P xs → AllByRecursion Q xs
 all-map P Q each [] all = tt
 all-map P Q each (x ∷ xs) all = (each x all.0, all-map P Q each xs all.1)
-
--- what holds of the calls of each item's part, where something holds of the item, holds of the calls of all such items
-pub in-turn-each : {Item : Type 0} (Part : Parts Item) (Q : Item → Type 0) (P : ModuleCall → Type 0) → ((done : List ModuleCall) (item : Item) (now : List ModuleCall) (stop : Option Page) → Q item → Part done item now stop → AllByRecursion P now)
-    → (done : List ModuleCall) (items : List Item) (calls : List ModuleCall) (stop : Option Page) → AllByRecursion Q items → InTurn Part done items calls stop → AllByRecursion P calls
-in-turn-each Part Q P each done [] calls stop all turn = subst (AllByRecursion P) (sym turn.0) tt
-in-turn-each Part Q P each done (item ∷ items) calls stop all (inl stopped) = each done item calls (Some stopped.0) all.0 stopped.1
-in-turn-each Part Q P each done (item ∷ items) calls stop all (inr (now, later, is, part, rest)) =
-    subst (AllByRecursion P) (sym is) (all-append P now later (each done item now None all.0 part) (in-turn-each Part Q P each (done ++ now) items later stop all.1 rest))
 
 -- the work on items and on items behind them
 pub record TurnSplit {Item : Type 0} (Part : Parts Item) (done : List ModuleCall) (xs ys : List Item) (calls : List ModuleCall) : Type 0 where

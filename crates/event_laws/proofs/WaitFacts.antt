@@ -1,9 +1,9 @@
 -- Which blocks wait at boot, by the calls before them.
-use Rattle.std.proofs.Common.{◌≡◌, ℕ, ◌+◌, ◌-◌, ◌*◌, ◌/◌, ◌%◌, ◌^◌, ◌<◌, ◌≤◌, max, Bool, true, false, ◌&&◌, Option, None, Some, List, [], ◌∷◌, ◌++◌, map, refl, sym, ◌∙◌, ap, subst, inl, inr, arith, ◌==◌, eq-eqb, nat_lt, append_assoc, append-nil}
+use Rattle.std.proofs.Common.{◌≡◌, ℕ, ◌+◌, ◌-◌, ◌*◌, ◌/◌, ◌%◌, ◌^◌, ◌<◌, ◌≤◌, max, Bool, true, false, Option, None, Some, List, [], ◌∷◌, ◌++◌, map, refl, sym, ◌∙◌, ap, subst, inl, inr, arith, ◌==◌, eq-eqb, nat_lt, append_assoc, append-nil}
 use Rattle.std.specs.Prelude.{◌⊎◌, fold}
 use Rattle.std.specs.List.{AllByRecursion}
 use Rattle.std.specs.Option.{option_map_or}
-use Rattle.std.proofs.lemmas.Bool.{cases_Bool}
+use Rattle.std.proofs.lemmas.Bool.{cases_Bool, and_parts}
 use Rattle.std.proofs.lemmas.List.Elements.{filter-append}
 use mathlib.Core.Path.{fun_ext}
 use Rattle.guest_base.specs.Ranges.{in_range}
@@ -23,7 +23,8 @@ use Rattle.event_core.specs.Boot.{InTurn, StagePart, Stage, Early, PoolAccepted,
 use Rattle.event_core.specs.Calls.{covers}
 use Rattle.event_core.specs.Units.{bit_of, bit_after, unit_count, unit_first, unit_pages, units_end, mark_step, is_marked}
 use Rattle.event_laws.specs.Coming.{ComesTo, waits_after}
-use Rattle.event_laws.proofs.TurnLemmas.{all-append, all-map, in-turn-each, turn-split}
+use Rattle.event_core.proofs.BootFacts.{all-append, in-turn-each}
+use Rattle.event_laws.proofs.TurnLemmas.{all-map, turn-split}
 use Rattle.event_laws.proofs.StageLemmas.{stages-split}
 use Rattle.event_laws.proofs.RiseLemmas.{RiseTo, cut-rises, rise-split, rise-below, rise-above}
 use Rattle.event_laws.proofs.PlaceLemmas.{LiesIn, steps-in, Begins, range-begins, guarded-at, UnitFits, begins-above, ends-below, unit-some}
@@ -37,10 +38,6 @@ use Rattle.event_laws.proofs.MarkLemmas.{below-none, below-all, Counts, marks-be
 abbrev EarlyCall : Boot → ModuleCall → Type 0
 EarlyCall boot call = (call.kind ≡ Accept) × ((unit page : ℕ) → bit_of boot.bits unit ≡ true → in_range (unit_first boot unit) (unit_pages boot) page ≡ true → covers call page ≡ false)
 
-first-both : (b c : Bool) → (b && c) ≡ true → b ≡ true
-first-both true c h = refl
-first-both false c h = cc
-
 piece-calls : (boot : Boot) (done : List ModuleCall) (pages : Pages) (calls : List ModuleCall) (stop : Option Page) → PieceApart boot pages → AcceptsPiece boot done pages calls stop → AllByRecursion (EarlyCall boot) calls
 piece-calls boot done pages calls stop apart part =
     all-map (LiesIn (pending_piece boot done pages)) (EarlyCall boot)
@@ -48,7 +45,7 @@ piece-calls boot done pages calls stop apart part =
       lies.kind,
       λ unit page set inside. elim (cases_Bool (covers call page)) [
         | inl covered ↦
-            (let here : in_range pages.first pages.count page ≡ true = first-both _ _ (lies.pages page covered) in
+            (let here : in_range pages.first pages.count page ≡ true = (and_parts _ _ (lies.pages page covered)).0 in
             let no : true ≡ false = sym here ∙ apart unit page set inside in
             cc)
         | inr uncovered ↦ uncovered
@@ -271,7 +268,7 @@ waits-by boot block pieces lower (Some pool) done rest is at = waits-pooled boot
 pub waits-as-comes : (boot : Boot) (block : Block) (done : List ModuleCall) → ComesTo boot block done → block.order ≡ 10 → waits_at_boot boot block ≡ waits_after boot done block
 waits-as-comes boot block done comes ten =
     let made = comes.made in
-    let right = made.right in
+    let right = made.right.uncalled in
     let split = stages-split boot comes.pieces comes.before block comes.later comes.stages in
     let rises = cut-rises boot right.ram.rise in
     let at = rise-split 0 rises.0 split.lower block split.higher (subst (RiseTo 0 rises.0) split.cut_is rises.1) in

@@ -67,15 +67,17 @@ no-calls = record {
 
 pub small_guest-booted : BootRight small_map [] None 0 1 1 small_guest
 small_guest-booted = record {
-  ram = record { each = each-state; some = some-pages; rise = runs-rise };
-  same_hosts = refl;
-  unit = refl;
-  base = refl;
-  bitmap = refl;
-  bits = bits;
-  same_cpus = refl;
-  same_areas = refl;
-  raised = refl;
-  pool = refl;
+  uncalled = record {
+    ram = record { each = each-state; some = some-pages; rise = runs-rise };
+    same_hosts = refl;
+    unit = refl;
+    base = refl;
+    bitmap = refl;
+    bits = bits;
+    same_cpus = refl;
+    same_areas = refl;
+    raised = refl;
+    pool = refl;
+  };
   made = no-calls;
 }

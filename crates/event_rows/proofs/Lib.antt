@@ -1,5 +1,4 @@
 pub mod AreaFacts
-pub mod BlockingFacts
 pub mod BootFacts
 pub mod BounceFacts
 pub mod ConversionFacts

@@ -61,16 +61,18 @@ pool-calls = record {
 pub pool_guest-booted : BootRight pool_map [] None 128 1 1 pool_guest
 unfolding first_such
 pool_guest-booted = record {
-  ram = record { each = each-state; some = some-pages; rise = runs-rise };
-  same_hosts = refl;
-  unit = refl;
-  base = refl;
-  bitmap = refl;
-  bits = λ unit low. absurd (omega (arith, low));
-  same_cpus = refl;
-  same_areas = refl;
-  raised = refl;
-  pool = pool-place;
+  uncalled = record {
+    ram = record { each = each-state; some = some-pages; rise = runs-rise };
+    same_hosts = refl;
+    unit = refl;
+    base = refl;
+    bitmap = refl;
+    bits = λ unit low. absurd (omega (arith, low));
+    same_cpus = refl;
+    same_areas = refl;
+    raised = refl;
+    pool = pool-place;
+  };
   made = pool-calls;
 }
 

@@ -119,20 +119,22 @@ small-calls = record { pieces = []; early = refl; stages = inr ([], [], refl, (r
 
 pub small_unit-booted : BootRight small_map [] (Some small_table) 0 1 1 small_unit_guest
 small_unit-booted = record {
-  ram = record {
-    each = small-state;
-    some = two-some (run_of 0 1536 Accepted) (run_of 1536 1536 Pending) (omega arith) (omega arith);
-    rise = two-rise (run_of 0 1536 Accepted) (run_of 1536 1536 Pending) (record { ends = omega arith; differs = λ meets same. cc });
+  uncalled = record {
+    ram = record {
+      each = small-state;
+      some = two-some (run_of 0 1536 Accepted) (run_of 1536 1536 Pending) (omega arith) (omega arith);
+      rise = two-rise (run_of 0 1536 Accepted) (run_of 1536 1536 Pending) (record { ends = omega arith; differs = λ meets same. cc });
+    };
+    same_hosts = refl;
+    unit = refl;
+    base = refl;
+    bitmap = refl;
+    bits = λ unit low. refl;
+    same_cpus = refl;
+    same_areas = refl;
+    raised = refl;
+    pool = refl;
   };
-  same_hosts = refl;
-  unit = refl;
-  base = refl;
-  bitmap = refl;
-  bits = λ unit low. refl;
-  same_cpus = refl;
-  same_areas = refl;
-  raised = refl;
-  pool = refl;
   made = small-calls;
 }
 
@@ -176,16 +178,18 @@ giving-calls = record { pieces = []; early = refl; stages = inr ([], [], refl, (
 
 pub giving-booted : BootRight giving_map [] (Some giving_table) 0 1 1 giving_guest
 giving-booted = record {
-  ram = record { each = giving-state; some = one-some; rise = one-rise };
-  same_hosts = refl;
-  unit = refl;
-  base = refl;
-  bitmap = refl;
-  bits = λ unit low. refl;
-  same_cpus = refl;
-  same_areas = refl;
-  raised = refl;
-  pool = refl;
+  uncalled = record {
+    ram = record { each = giving-state; some = one-some; rise = one-rise };
+    same_hosts = refl;
+    unit = refl;
+    base = refl;
+    bitmap = refl;
+    bits = λ unit low. refl;
+    same_cpus = refl;
+    same_areas = refl;
+    raised = refl;
+    pool = refl;
+  };
   made = giving-calls;
 }
 
@@ -230,19 +234,21 @@ meanwhile-calls = record { pieces = []; early = refl; stages = inr ([], [], refl
 
 pub meanwhile-booted : BootRight meanwhile_map [] (Some meanwhile_table) 0 1 2 meanwhile_guest
 meanwhile-booted = record {
-  ram = record {
-    each = meanwhile-state;
-    some = two-some (run_of 0 1024 Pending) (run_of 1024 1024 Accepted) (omega arith) (omega arith);
-    rise = two-rise (run_of 0 1024 Pending) (run_of 1024 1024 Accepted) (record { ends = omega arith; differs = λ meets same. cc });
+  uncalled = record {
+    ram = record {
+      each = meanwhile-state;
+      some = two-some (run_of 0 1024 Pending) (run_of 1024 1024 Accepted) (omega arith) (omega arith);
+      rise = two-rise (run_of 0 1024 Pending) (run_of 1024 1024 Accepted) (record { ends = omega arith; differs = λ meets same. cc });
+    };
+    same_hosts = refl;
+    unit = refl;
+    base = refl;
+    bitmap = refl;
+    bits = λ unit low. refl;
+    same_cpus = refl;
+    same_areas = refl;
+    raised = refl;
+    pool = refl;
   };
-  same_hosts = refl;
-  unit = refl;
-  base = refl;
-  bitmap = refl;
-  bits = λ unit low. refl;
-  same_cpus = refl;
-  same_areas = refl;
-  raised = refl;
-  pool = refl;
   made = meanwhile-calls;
 }

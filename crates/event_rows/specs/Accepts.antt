@@ -37,7 +37,7 @@ small_guest = record {
 abbrev pub accepting : ℕ → List (List Command)
 accepting len = (command.Accept 4194304 len ∷ []) ∷ []
 
--- so many units from the first on
+-- a count of units from the first on
 abbrev pub first_units : ℕ → Units
 first_units count = record { first = 0; count = count }
 
@@ -67,12 +67,12 @@ reported units calls cleared = record {
   reply = Some (Count cleared);
 }
 
--- Small calls that are done, one for each of so many pages from one on
+-- Small calls that are done, one for each of a count of pages from one on
 abbrev pub accepted_singly : ℕ → ℕ → List ModuleCall
 accepted_singly first zero = []
 accepted_singly first (suc count) = accepted Small first 1 ∷ accepted_singly (first + 1) count
 
--- The first units are claimed and accepted by these calls, and so many units are counted.
+-- The first units are claimed and accepted by these calls, and the report counts this many units.
 abbrev pub units_accepted_by : ℕ → List ModuleCall → ℕ → List Entry
 units_accepted_by count calls cleared = claimed (first_units count) ∷ reported (first_units count) calls cleared ∷ []
 

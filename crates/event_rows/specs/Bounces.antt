@@ -23,7 +23,7 @@ small_pool = record { first = 0; count = 64 }
 abbrev pub pool_guest : Boot
 pool_guest = record (accepted_guest 0 65) { slots = 128; pool = Some small_pool; calls = share_call small_pool answer.Ok ∷ [] }
 
--- one slot, with so many mapped bytes at its start
+-- one slot, with a count of mapped bytes at its start
 abbrev pub slots_at : ℕ → ℕ → SlotRun
 slots_at first len = record { area = 0; first = first; count = 1; offset = 0; len = len }
 

@@ -27,7 +27,7 @@ entry_at stamp number place event reply = entry_by 0 stamp number place event re
 abbrev pub one_page : ℕ → Block
 one_page page = record { first = page; order = 0 }
 
--- a guest of one processor with so many accepted pages from one on, without unaccepted memory and without a pool
+-- a guest of one processor with a count of accepted pages from one on, without unaccepted memory and without a pool
 abbrev pub accepted_guest : ℕ → ℕ → Boot
 accepted_guest first count = record {
   ram = record { pages = record { first = first; count = count }; state = Accepted } ∷ [];

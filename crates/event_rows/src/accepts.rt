@@ -18,7 +18,8 @@ pub fn page_accepted_is_printed()
 
 /// An accept of the first page doesn't answer another count of units than 1.
 pub fn page_miscounted_is_not()
-    ensures { (count : ℕ) → count ≢ 1 → Whole small_guest (accepting 4096) (units_accepted_by 1 one_large count) → ⊥ }
+    ensures { (count : ℕ) → count ≢ 1
+        → Whole small_guest (accepting 4096) (units_accepted_by 1 one_large count) → ⊥ }
 {}
 
 /// An accept of the first page isn't over with its claim alone: where the last entry is missing the command has no answer.
@@ -28,12 +29,14 @@ pub fn page_unreported_is_not()
 
 /// An accept of the first page makes no Small call of 4 KiB where a Large one of 2 MiB fits.
 pub fn page_accepted_small_is_not()
-    ensures { Whole small_guest (accepting 4096) (units_accepted_by 1 (accepted Small 1024 1 ∷ []) 1) → ⊥ }
+    ensures { Whole small_guest (accepting 4096)
+        (units_accepted_by 1 (accepted Small 1024 1 ∷ []) 1) → ⊥ }
 {}
 
 /// An accept of the first page makes no 512 Small calls in place of the Large one, though they would clear the unit's bit too.
 pub fn page_accepted_singly_is_not()
-    ensures { Whole small_guest (accepting 4096) (units_accepted_by 1 (accepted_singly 1024 512) 1) → ⊥ }
+    ensures { Whole small_guest (accepting 4096) (units_accepted_by 1 (accepted_singly 1024 512) 1)
+        → ⊥ }
 {}
 
 /// An accept of the whole first unit, of 2 MiB, claims the guard behind its end too, accepts both by a Large call each and
@@ -44,7 +47,8 @@ pub fn unit_accepted_is_whole()
 
 /// An accept of the whole first unit doesn't answer another count of units than 2: the guard counts too.
 pub fn unit_miscounted_is_not()
-    ensures { (count : ℕ) → count ≢ 2 → Whole small_guest (accepting 2097152) (units_accepted_by 2 two_large count) → ⊥ }
+    ensures { (count : ℕ) → count ≢ 2
+        → Whole small_guest (accepting 2097152) (units_accepted_by 2 two_large count) → ⊥ }
 {}
 
 /// An accept of the whole first unit isn't over with its claim alone: where the last entry is missing the command has no answer.
@@ -54,7 +58,8 @@ pub fn unit_unreported_is_not()
 
 /// An accept of the whole first unit makes no Small call for the guard, where a Large one fits.
 pub fn unit_accepted_small_is_not()
-    ensures { Whole small_guest (accepting 2097152) (units_accepted_by 2 (accepted Large 1024 512 ∷ accepted Small 1536 1 ∷ []) 2) → ⊥ }
+    ensures { Whole small_guest (accepting 2097152)
+        (units_accepted_by 2 (accepted Large 1024 512 ∷ accepted Small 1536 1 ∷ []) 2) → ⊥ }
 {}
 
 /// An accept of the whole first unit doesn't go on without the guard (after Linux's `accept_memory`).

@@ -14,7 +14,8 @@ pub fn areas_filled_is_whole()
 
 /// After a look in each area that found nothing, the mapping is answered nothing else than full, and isn't left unanswered.
 pub fn full_unanswered_is_not()
-    ensures { (last : Option ReplyValue) → last ≢ Some Full → Whole area_guest (area_script ∷ []) (area_history last) → ⊥ }
+    ensures { (last : Option ReplyValue) → last ≢ Some Full
+        → Whole area_guest (area_script ∷ []) (area_history last) → ⊥ }
 {}
 
 /// The last mapping is full only where both areas were looked in, and neither has room for it.
@@ -29,7 +30,8 @@ pub fn full_after_one_look_is_not()
 
 /// A mapping isn't answered anything else after a look in each area that found nothing.
 pub fn full_withheld_is_not()
-    ensures { (last : Option ReplyValue) → last ≢ Some Full → FullOnlyWhereFull area_guest (area_script ∷ []) (area_history last) → ⊥ }
+    ensures { (last : Option ReplyValue) → last ≢ Some Full
+        → FullOnlyWhereFull area_guest (area_script ∷ []) (area_history last) → ⊥ }
 {}
 
 /// A look doesn't find nothing in an area where the mapping fits.

@@ -11,5 +11,6 @@ pub fn block_got_is_whole()
 
 /// No other bytes are read of the block than those that were written and zeros.
 pub fn block_misread_is_not()
-    ensures { (read : List ℕ) → read ≢ 0 ∷ 1 ∷ 2 ∷ 0 ∷ [] → Whole page_guest (page_script ∷ []) (page_history read) → ⊥ }
+    ensures { (read : List ℕ) → read ≢ 0 ∷ 1 ∷ 2 ∷ 0 ∷ []
+        → Whole page_guest (page_script ∷ []) (page_history read) → ⊥ }
 {}

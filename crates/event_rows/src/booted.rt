@@ -21,5 +21,6 @@ pub fn pool_guest_is_booted()
 /// Where the host maps the pool's first unit by small pages and the module fails at its second page, boot stops there: the large
 /// size is wrong, the first page is accepted, and the second one fails.
 pub fn boot_is_stopped()
-    ensures { BootCalls small_pages_map None stopped_guest stopped_calls (Some (record { 0 = 1025 })) }
+    ensures { BootCalls small_pages_map None stopped_guest stopped_calls
+        (Some (record { 0 = 1025 })) }
 {}

@@ -13,10 +13,12 @@ pub fn block_converted_is_whole()
 
 /// A load that strays into the page of a half block finds nothing else than that it is absent.
 pub fn half_block_found_is_not()
-    ensures { (read : List ℕ) (half : FoundValue) → half ≢ Absent → Whole pair_guest (pair_script ∷ []) (pair_history read half) → ⊥ }
+    ensures { (read : List ℕ) (half : FoundValue) → half ≢ Absent
+        → Whole pair_guest (pair_script ∷ []) (pair_history read half) → ⊥ }
 {}
 
 /// A block that was taken back doesn't keep its bytes.
 pub fn bytes_kept_is_not()
-    ensures { (read : List ℕ) (half : FoundValue) → read ≢ 0 ∷ [] → Whole pair_guest (pair_script ∷ []) (pair_history read half) → ⊥ }
+    ensures { (read : List ℕ) (half : FoundValue) → read ≢ 0 ∷ []
+        → Whole pair_guest (pair_script ∷ []) (pair_history read half) → ⊥ }
 {}

@@ -22,13 +22,16 @@ pub fn given_block_is_whole()
 
 /// A query that follows the giveback of its page finds nothing else than that it is unaccepted: a give sets the bits.
 pub fn bits_left_is_not()
-    ensures { (unaccepted : Bool) → unaccepted ≢ true → Whole giving_guest (giving_script ∷ []) (giving_history unaccepted) → ⊥ }
+    ensures { (unaccepted : Bool) → unaccepted ≢ true
+        → Whole giving_guest (giving_script ∷ []) (giving_history unaccepted) → ⊥ }
 {}
 
 /// The end of a giveback is that of its one call: done, or refused where the module fails.
 pub fn giveback_ends_by_its_call()
-    ensures { (convert_end giving_guest (refused_part ++ begun_again ∷ []) given_block (give_call given_block answer.Ok ∷ []) ≡ end.Converted)
-        × (convert_end giving_guest (refused_part ++ begun_again ∷ []) given_block (give_call given_block answer.Failed ∷ []) ≡ end.Refused) }
+    ensures { (convert_end giving_guest (refused_part ++ begun_again ∷ []) given_block
+        (give_call given_block answer.Ok ∷ []) ≡ end.Converted)
+        × (convert_end giving_guest (refused_part ++ begun_again ∷ []) given_block
+        (give_call given_block answer.Failed ∷ []) ≡ end.Refused) }
 {}
 
 /// A block's last page is owned where the module refused the block's giveback, and not where the block was given back.
@@ -44,7 +47,8 @@ pub fn giveback_is_refused()
         × (giveback_refusal giving_guest (has_block given_block HalfBlock) ≡ Some reply.Half)
         × (giveback_refusal giving_guest (has_mapped given_block) ≡ Some reply.Mapped)
         × (giveback_refusal giving_guest (has_block half_of_block PrivateBlock) ≡ Some reply.Small)
-        × (giveback_refusal giving_guest (has_block block_past_units PrivateBlock) ≡ Some reply.NoUnit)
+        × (giveback_refusal giving_guest (has_block block_past_units PrivateBlock)
+        ≡ Some reply.NoUnit)
         × (giveback_refusal stray_guest (has_block given_block PrivateBlock) ≡ Some reply.NoUnit) }
 {}
 
@@ -61,5 +65,6 @@ pub fn given_block_is_accepted_once()
 
 /// A block isn't given back twice: the second call doesn't find its pages accepted.
 pub fn given_twice_is_not()
-    ensures { SoundCalls (state_in giving_guest.ram) (give_call given_block answer.Ok ∷ give_call given_block answer.Ok ∷ []) → ⊥ }
+    ensures { SoundCalls (state_in giving_guest.ram)
+        (give_call given_block answer.Ok ∷ give_call given_block answer.Ok ∷ []) → ⊥ }
 {}

@@ -15,12 +15,14 @@ pub fn given_meanwhile_is_whole()
 
 /// The claim doesn't go on with any run, the given units among them.
 pub fn given_meanwhile_taken_is_not()
-    ensures { (next : Option Units) → next ≢ None → Whole meanwhile_guest (giver_script ∷ accepter_script ∷ []) (meanwhile_history next) → ⊥ }
+    ensures { (next : Option Units) → next ≢ None
+        → Whole meanwhile_guest (giver_script ∷ accepter_script ∷ []) (meanwhile_history next) → ⊥ }
 {}
 
 /// The claim's next run is found by the bits that stood before the claim: it has none, though the given units' bits are set.
 pub fn claim_goes_by_its_bits()
     ensures { (claim_of meanwhile_guest meanwhile_given 1 ≡ Some claim_meanwhile)
         × (next_run meanwhile_guest claim_meanwhile None ≡ None)
-        × (run_after meanwhile_guest (calls_of meanwhile_guest meanwhile_given) claimed_units 2 ≡ Some meanwhile_units) }
+        × (run_after meanwhile_guest (calls_of meanwhile_guest meanwhile_given) claimed_units 2
+        ≡ Some meanwhile_units) }
 {}

@@ -12,17 +12,20 @@ pub fn both_accept_is_whole()
 
 /// The first processor answers no other count, as where the two replies are swapped.
 pub fn first_miscounted_is_not()
-    ensures { (first second : ℕ) → first ≢ 2 → Whole small_pair (first_script ∷ second_script ∷ []) (both_accept first second) → ⊥ }
+    ensures { (first second : ℕ) → first ≢ 2
+        → Whole small_pair (first_script ∷ second_script ∷ []) (both_accept first second) → ⊥ }
 {}
 
 /// The second processor answers no other count.
 pub fn second_miscounted_is_not()
-    ensures { (first second : ℕ) → second ≢ 0 → Whole small_pair (first_script ∷ second_script ∷ []) (both_accept first second) → ⊥ }
+    ensures { (first second : ℕ) → second ≢ 0
+        → Whole small_pair (first_script ∷ second_script ∷ []) (both_accept first second) → ⊥ }
 {}
 
 /// The second processor doesn't claim its unit before the first has reported, whatever run it finds.
 pub fn claim_too_early_is_not()
-    ensures { (run : Option Units) (second : ℕ) → Whole small_pair (first_script ∷ second_script ∷ []) (second_early run second) → ⊥ }
+    ensures { (run : Option Units) (second : ℕ)
+        → Whole small_pair (first_script ∷ second_script ∷ []) (second_early run second) → ⊥ }
 {}
 
 /// Where the order is asked for, the processor of each entry stands on a line of its own behind the pages.

@@ -15,12 +15,14 @@ pub fn small_unit_accepted_is_whole()
 
 /// That accept answers no other count of units.
 pub fn small_unit_miscounted_is_not()
-    ensures { (cleared : ℕ) → cleared ≢ 1 → Whole small_unit_guest (small_unit_script ∷ []) (small_unit_history cleared) → ⊥ }
+    ensures { (cleared : ℕ) → cleared ≢ 1
+        → Whole small_unit_guest (small_unit_script ∷ []) (small_unit_history cleared) → ⊥ }
 {}
 
 /// By the table the unaccepted memory's page 1,535 is accepted at first and page 1,536 is pending.
 pub fn table_tells_first_states()
-    ensures { (first_by small_map (Some small_table) 1535 ≡ Some Accepted) × (first_by small_map (Some small_table) 1536 ≡ Some Pending) }
+    ensures { (first_by small_map (Some small_table) 1535 ≡ Some Accepted)
+        × (first_by small_map (Some small_table) 1536 ≡ Some Pending) }
 {}
 
 /// The guarded units of page 1,535 are its unit, of one page, and the guard, of one page too.

@@ -8,5 +8,8 @@ ghost use Rattle.event_core.specs.Next.{next_step};
 
 /// Whether a processor has a next step doesn't depend on what the module answers: turns may ask before any call is made.
 pub fn blocked_whatever_is_answered()
-    ensures { (boot : BootValue) (scripts : List (List CommandValue)) (cpu : ℕ) (own there : List Moved) (calls : List CallValue) → is_none (next_step boot scripts cpu own there calls) ≡ is_none (next_step boot scripts cpu own there []) }
+    ensures { (boot : BootValue) (scripts : List (List CommandValue)) (cpu : ℕ)
+        (own there : List Moved) (calls : List CallValue)
+        → is_none (next_step boot scripts cpu own there calls)
+        ≡ is_none (next_step boot scripts cpu own there []) }
 {}

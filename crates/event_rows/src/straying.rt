@@ -14,12 +14,14 @@ pub fn given_page_is_whole()
 
 /// A load that strays into a given page finds nothing else than that it is absent.
 pub fn given_page_found_is_not()
-    ensures { (given : FoundValue) → given ≢ Absent → Whole stray_guest (stray_script ∷ []) (stray_history given) → ⊥ }
+    ensures { (given : FoundValue) → given ≢ Absent
+        → Whole stray_guest (stray_script ∷ []) (stray_history given) → ⊥ }
 {}
 
 /// A page of a block that was given back is absent.
 pub fn given_page_is_absent()
-    ensures { (is_absent stray_given 1024 ≡ true) × (found_at stray_guest stray_given 1024 ≡ Some Absent) }
+    ensures { (is_absent stray_given 1024 ≡ true)
+        × (found_at stray_guest stray_given 1024 ≡ Some Absent) }
 {}
 
 /// A given page is accepted after a report that accepted its unit, and the block's other unit is absent still.

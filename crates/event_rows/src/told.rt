@@ -12,15 +12,18 @@ pub fn block_bytes_are_told()
 
 /// No read of the block tells other bytes.
 pub fn bytes_mistold_is_not()
-    ensures { (read : List ℕ) → read ≢ 0 ∷ 1 ∷ 2 ∷ 0 ∷ [] → BytesTold page_guest (page_script ∷ []) (page_history read) → ⊥ }
+    ensures { (read : List ℕ) → read ≢ 0 ∷ 1 ∷ 2 ∷ 0 ∷ []
+        → BytesTold page_guest (page_script ∷ []) (page_history read) → ⊥ }
 {}
 
 /// The reads of a block whose bytes go through the pool tell what was copied out, and the device and the host what was copied in.
 pub fn bounced_bytes_are_told()
-    ensures { BytesTold pool_guest (bounce_script ∷ []) (bounce_history (1 ∷ 170 ∷ 187 ∷ 204 ∷ 5 ∷ []) (7 ∷ 170 ∷ [])) }
+    ensures { BytesTold pool_guest (bounce_script ∷ [])
+        (bounce_history (1 ∷ 170 ∷ 187 ∷ 204 ∷ 5 ∷ []) (7 ∷ 170 ∷ [])) }
 {}
 
 /// No read of the device tells other bytes than those of its slots.
 pub fn device_mistold_is_not()
-    ensures { (read told : List ℕ) → told ≢ 7 ∷ 170 ∷ [] → BytesTold pool_guest (bounce_script ∷ []) (bounce_history read told) → ⊥ }
+    ensures { (read told : List ℕ) → told ≢ 7 ∷ 170 ∷ []
+        → BytesTold pool_guest (bounce_script ∷ []) (bounce_history read told) → ⊥ }
 {}

@@ -11,7 +11,7 @@ use std::alloc::{AllocError, Global};
 use std::process::ExitCode;
 use std::{env, io};
 
-/// The status for want of memory.
+/// The status where memory runs out.
 const NO_MEMORY: u8 = 6;
 
 /// The words after the program's name. Where one isn't text there are none, and no grammar has no words.
@@ -26,7 +26,8 @@ fn words_of(rt: HostRuntime) -> Result<Vec<String>, AllocError> {
 /// A port that never fails for each processor that a guest can have.
 fn make_ports(alloc: Global) -> Result<Vec<MemPort>, AllocError>
     ensures count { IfOk result (λ ports. length ports.items ≡ 64) }
-    ensures unmade { IfOk result (λ ports. All (λ port. ⟦<MemPort as Port>⟧.made port ≡ []) ports.items) }
+    ensures unmade { IfOk result
+        (λ ports. All (λ port. ⟦<MemPort as Port>⟧.made port ≡ []) ports.items) }
 {
     let mut ports = Vec::new(alloc);
     for cpu in 0..MAX_CPUS {

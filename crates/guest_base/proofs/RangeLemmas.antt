@@ -1,4 +1,5 @@
 use Rattle.std.proofs.Common.{◌≡◌, ℕ, ◌+◌, ◌<◌, ◌≤◌, true, false, arith}
+use Rattle.std.specs.Prelude.{nat_lt}
 use Rattle.guest_base.specs.Ranges.{in_range}
 
 -- The test of a range: a number between its ends passes, and no other.
@@ -14,3 +15,6 @@ in_range-below first count n h = grind arith
 
 pub in_range-past : (first count n : ℕ) → first + count ≤ n → in_range first count n ≡ false
 in_range-past first count n h = grind arith
+
+pub lt-of : (a b : ℕ) → nat_lt a b ≡ true → a < b
+lt-of a b h = grind arith

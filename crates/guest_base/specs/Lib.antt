@@ -1,5 +1,6 @@
 pub mod Blocks
 pub mod Counts
+pub mod Failing
 pub mod Levels
 pub mod Parts
 pub mod Ranges

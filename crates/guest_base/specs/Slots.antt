@@ -1,22 +1,19 @@
-use Rattle.std.specs.Prelude.{ℕ, ◌+◌, ◌-◌, ◌%◌, ◌==◌, ◌&&◌, ◌≤◌, Bool, true, not, nat_le, Option, Some, None, if◌then◌else◌}
+use Rattle.std.specs.Prelude.{ℕ, ◌+◌, ◌-◌, ◌%◌, ◌==◌, ◌&&◌, ◌≤◌, Bool, true, not, nat_le, Option, if◌then◌else◌}
+use Rattle.std.specs.Option.{option_or}
+use Rattle.guest_base.specs.declared.limits.TheConstants.{SEGMENT_SLOTS}
 use Rattle.guest_base.specs.declared.transfer.Align.{Align}
 use Rattle.guest_base.specs.declared.transfer.Align.TheVariants.{Any, Even, Odd}
 use Rattle.guest_base.specs.Search.{first_such, each_such, row_length}
 
 -- A segment is 128 slots. The slots of an area are the numbers below its count, and a test tells the used ones.
 
--- the first answer, or the second where the first is none (own rule)
-abbrev pub or_else : Option ℕ → Option ℕ → Option ℕ
-or_else (Some at) second = Some at
-or_else None second = second
-
 -- the length of the free run that begins at a slot, within its segment; 0 where the slot is used (swiotlb.c)
 abbrev pub free_run : (ℕ → Bool) → ℕ → ℕ
-free_run used at = row_length (λ k. not (used k)) at (128 - at % 128)
+free_run used at = row_length (λ k. not (used k)) at (SEGMENT_SLOTS - at % SEGMENT_SLOTS)
 
 -- the slots at, at + 1, .., at + need - 1 lie in one segment
 abbrev pub InOneSegment : ℕ → ℕ → Type 0
-InOneSegment at need = at % 128 + need ≤ 128
+InOneSegment at need = at % SEGMENT_SLOTS + need ≤ SEGMENT_SLOTS
 
 -- a run may begin at this slot (own rule)
 abbrev pub meets_align : Align → ℕ → Bool
@@ -29,12 +26,12 @@ meets_align Odd at = at % 2 == 1
 abbrev pub fits_at : (ℕ → Bool) → ℕ → ℕ → Align → ℕ → Bool
 fits_at used slots need align at =
     nat_le (at + need) slots
-    && (nat_le (at % 128 + need) 128 && (meets_align align at && each_such (λ k. not (used k)) at need))
+    && (nat_le (at % SEGMENT_SLOTS + need) SEGMENT_SLOTS && (meets_align align at && each_such (λ k. not (used k)) at need))
 
 -- the first start that fits, in the order hint, .., last, 0, .., hint - 1 (swiotlb.c)
 abbrev pub choose : (ℕ → Bool) → ℕ → ℕ → ℕ → Align → Option ℕ
 choose used slots hint need align =
-    or_else
+    option_or
     (first_such (fits_at used slots need align) hint (slots - hint))
     (first_such (fits_at used slots need align) 0 hint)
 

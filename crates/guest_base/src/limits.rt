@@ -32,13 +32,9 @@ pub const MAX_COMMANDS: u64 = 2048;
 pub const MAX_NAMED_BYTES: u64 = 4_194_304;
 /// The greatest size of an order file, in bytes.
 pub const MAX_ORDER_BYTES: u64 = 67_108_864;
-/// The greatest number of numbers in an order file.
-pub const MAX_TURNS: u64 = 16_777_216;
-/// The greatest size of a pack text, in bytes.
-pub const MAX_PACK_BYTES: u64 = 1_048_576;
 /// The greatest number of slots of the pool.
 pub const MAX_SLOTS: u32 = 131_072;
 /// The greatest number of areas of the pool.
 pub const MAX_AREAS: u32 = 64;
-/// The greatest length of a mapping, in bytes.
-pub const MAX_MAPPING_BYTES: u64 = 262_144;
+/// The greatest number of bytes that one command writes out, in hexadecimal digits.
+pub const MAX_HEX_BYTES: u64 = 262_144;

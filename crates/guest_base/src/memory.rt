@@ -74,7 +74,9 @@ pub struct Block {
 impl Pages {
     /// The `count` pages from `first` on. None exactly where `count` is 0, or they end above 2^28.
     pub fn new(first: u64, count: u64) -> Option<Pages>
-        ensures some { IfSome result (λ p. (p ≡ record { first = first; count = count }) × (0 < count) × (first + count ≤ 2 ^ 28)) }
+        ensures some { IfSome result
+            (λ p. (p ≡ record { first = first; count = count }) × (0 < count)
+            × (first + count ≤ 2 ^ 28)) }
         ensures none { IfNone result ((count ≡ 0) ⊎ (2 ^ 28 < first + count)) }
     {
         if is_range(first, count) {
@@ -93,7 +95,9 @@ impl Pages {
 
     /// Whether the two have a page in common.
     pub fn meets(self, other: Pages) -> bool
-        ensures { IsTrue result ↔ ((page : ℕ) × InRange self.first self.count page × InRange other.first other.count page) }
+        ensures { IsTrue result
+            ↔ ((page : ℕ) × InRange self.first self.count page
+            × InRange other.first other.count page) }
     {
         ranges_meet(self.first, self.count, other.first, other.count)
     }
@@ -102,7 +106,9 @@ impl Pages {
 impl Units {
     /// The `count` units from `first` on. None exactly where `count` is 0, or they end above 2^28.
     pub fn new(first: u64, count: u64) -> Option<Units>
-        ensures some { IfSome result (λ u. (u ≡ record { first = first; count = count }) × (0 < count) × (first + count ≤ 2 ^ 28)) }
+        ensures some { IfSome result
+            (λ u. (u ≡ record { first = first; count = count }) × (0 < count)
+            × (first + count ≤ 2 ^ 28)) }
         ensures none { IfNone result ((count ≡ 0) ⊎ (2 ^ 28 < first + count)) }
     {
         if is_range(first, count) {
@@ -114,7 +120,9 @@ impl Units {
 
     /// Whether the two have a unit in common.
     pub fn meets(self, other: Units) -> bool
-        ensures { IsTrue result ↔ ((unit : ℕ) × InRange self.first self.count unit × InRange other.first other.count unit) }
+        ensures { IsTrue result
+            ↔ ((unit : ℕ) × InRange self.first self.count unit
+            × InRange other.first other.count unit) }
     {
         ranges_meet(self.first, self.count, other.first, other.count)
     }
@@ -156,7 +164,8 @@ fn is_range(first: u64, count: u64) -> bool
 
 /// Whether two ranges have a number in common; their ends may lie above every `u64`.
 fn ranges_meet(first: u64, count: u64, other_first: u64, other_count: u64) -> bool
-    ensures { IsTrue result ↔ ((n : ℕ) × InRange first count n × InRange other_first other_count n) }
+    ensures { IsTrue result
+        ↔ ((n : ℕ) × InRange first count n × InRange other_first other_count n) }
 {
     let (first, other_first) = (u128::from(first), u128::from(other_first));
     let start = first.max(other_first);

@@ -1,5 +1,5 @@
 -- The cut of RAM into blocks: the order at a place, the blocks of a range, and the ranges of runs.
-use Rattle.std.proofs.Common.{◌≡◌, ◌≢◌, ℕ, zero, suc, ◌+◌, ◌-◌, ◌^◌, ◌<◌, ◌≤◌, Bool, true, false, Option, None, Some, find, length, List, [], ◌∷◌, get_or, refl, sym, ap, ◌∙◌, arith, inl, inr, eqb-true, eq-eqb, ne_eqb, ◌==◌}
+use Rattle.std.proofs.Common.{◌≡◌, ◌≢◌, ℕ, zero, suc, ◌+◌, ◌-◌, ◌^◌, ◌<◌, ◌≤◌, Bool, true, false, Option, None, Some, find, length, List, [], ◌∷◌, get_or, refl, sym, ap, ◌∙◌, arith, inl, inr, eqb-true, ◌==◌}
 use Rattle.std.specs.List.{All, flat_map}
 use Rattle.std.specs.Option.{option_map}
 use Rattle.std.proofs.lemmas.Bool.{cases_Bool, cases_lt}
@@ -11,6 +11,7 @@ use Rattle.guest_base.specs.declared.memory.Block.{Block}
 use Rattle.guest_base.specs.declared.memory.PageRun.{PageRun}
 use Rattle.guest_base.specs.declared.memory.PageState.{PageState}
 use Rattle.event_core.specs.Cut.{pages_end, joined, ram_ranges, may_stand, order_at, blocks_from, blocks_of}
+use Rattle.event_core.proofs.CutFacts.{order-most, order-fits, blocks-none, blocks-some}
 use Rattle.event_core.specs.Runs.{run_end, run_holds, AreMaximalRuns}
 
 -- ---- the order at a place
@@ -30,37 +31,7 @@ unfolding order_at
 order-last first left zero last = refl
 order-last first left (suc order) last = absurd (omega arith)
 
-pub order-most : (first left most : ℕ) → order_at first left most ≤ most
-unfolding order_at
-order-most first left zero = omega arith
-order-most first left (suc most) =
-    elim (cases_Bool (may_stand first left (suc most))) [
-      | inl may ↦ rw may (omega arith)
-      | inr not ↦ let below : order_at first left most ≤ most = order-most first left most in rw not (omega (arith, below))
-    ]
-
-may-fits : (first left order : ℕ) → may_stand first left order ≡ true → 2 ^ order ≤ left
-may-fits first left order may = grind (arith, nat_tests)
-
-pub order-fits : (first left most : ℕ) → 0 < left → 2 ^ order_at first left most ≤ left
-unfolding order_at
-order-fits first left zero some = omega arith
-order-fits first left (suc most) some =
-    elim (cases_Bool (may_stand first left (suc most))) [
-      | inl may ↦ rw may (may-fits first left (suc most) may)
-      | inr not ↦ rw not (order-fits first left most some)
-    ]
-
 -- ---- the blocks of a range
-
-blocks-none : (most first left : ℕ) → left ≡ 0 → blocks_from most first left ≡ []
-unfolding blocks_from
-blocks-none zero first left none = refl
-blocks-none (suc most) first left none = rw (eq-eqb left 0 none, blocks_from) refl
-
-blocks-some : (most first left : ℕ) → left ≢ 0 → blocks_from (suc most) first left ≡ record { first = first; order = order_at first left 10 } ∷ blocks_from most (first + 2 ^ order_at first left 10) (left - 2 ^ order_at first left 10)
-unfolding blocks_from
-blocks-some most first left some = rw (ne_eqb left 0 some, blocks_from) refl
 
 -- more than enough makes no difference
 blocks-enough : (most enough first left : ℕ) → left ≤ most → left ≤ enough → blocks_from most first left ≡ blocks_from enough first left

@@ -1,7 +1,6 @@
 use Rattle.std.proofs.Common.{◌≡◌, ◌≢◌, ℕ, zero, suc, ◌+◌, ◌^◌, ◌≤◌, Bool, true, false, ◌&&◌, Option, None, Some, List, [], ◌∷◌, ◌++◌, refl, sym, ◌∙◌, ap, subst, inl, inr, arith, cond, append-nil}
-use Rattle.std.specs.Prelude.{Result, Ok, Err, OnOk}
 use mathlib.Core.Path.{fun_ext}
-use Rattle.std.proofs.lemmas.Bool.{cases_Bool}
+use Rattle.std.proofs.lemmas.Bool.{cases_Bool, and_parts, false_from_ne_true}
 use Rattle.guest_base.specs.Ranges.{in_range}
 use Rattle.guest_base.specs.Search.{any_such}
 use Rattle.guest_base.proofs.SearchLemmas.{any_such_same}
@@ -18,7 +17,7 @@ use Rattle.event_core.specs.Calls.{state_after, SoundCalls}
 use Rattle.event_core.specs.MemoryRows.{page_state, is_pending}
 use Rattle.event_core.specs.Runs.{state_in as first_state_of}
 use Rattle.event_core.specs.Units.{bit_of, bit_after, unit_first, unit_pages}
-use Rattle.event_core.proofs.StepsLemmas.{steps-outside, steps-sound, pending-is}
+use Rattle.event_core.proofs.StepsLemmas.{steps-outside, steps-sound, pending-is, pending-if}
 use Rattle.event_core.proofs.SoundLemmas.{state_after-append, SoundCalls-append}
 use Rattle.page_module.specs.States.{state_in}
 use Rattle.page_module.specs.Spans.{Taken}
@@ -34,13 +33,6 @@ use Rattle.guest_boot.specs.Booting.{StandsAfter, IsEarly, AcceptedOut}
 use Rattle.guest_boot.specs.declared.accept.Kept.{Kept}
 
 -- Pages that are taken out of the table, accepted by sizes and put back.
-
-pub both-ok : {T E P Q R : Type 0} (r : Result T E) → OnOk r P → OnOk r Q → (P → Q → R) → OnOk r R
-both-ok (Ok x) p q f = f p q
-both-ok (Err e) p q f = tt
-
-pub err-same : {T E : Type 0} (r : Result T E) (a b : E) → r ≡ Err a → r ≡ Err b → a ≡ b
-err-same r a b is same = let both : Err a ≡ Err b = sym is ∙ same in cc
 
 -- what is done with the states of pages
 pub record OnePiece (boot : Boot) (pages : Pages) (now : List ModuleCall) (table next old new : ℕ → Option PageState) : Type 0 where
@@ -79,10 +71,6 @@ pub none-left : (hosts : List _) (old mid new : Table) (pages : Pages) (span : T
 none-left hosts old mid new pages span now a back =
     back.out ∙ ap (without span.ticket) a.out ∙ ap (λ t. without t (a.taken.ticket ∷ [])) a.accepts.ticket ∙ without-one a.taken.ticket
 
-pending-if : (b : Bool) (s : Option PageState) → is_pending (cond b s None) ≡ (b && is_pending s)
-pending-if true s = refl
-pending-if false s = refl
-
 piece-set : (boot : Boot) (done : List ModuleCall) (pages : Pages) (table old : ℕ → Option PageState) → ((page : ℕ) → table page ≡ page_state boot done page) → ((page : ℕ) → old page ≡ cond (in_range pages.first pages.count page) (table page) None) → (λ page. is_pending (old page)) ≡ pending_piece boot done pages
 piece-set boot done pages table old states taken = fun_ext (λ page.
     ap is_pending (taken page) ∙ pending-if (in_range pages.first pages.count page) (table page)
@@ -93,10 +81,6 @@ pub piece-steps : (boot : Boot) (done now : List ModuleCall) (pages : Pages) (ta
 piece-steps boot done now pages table next old new states one =
     let P : (ℕ → Bool) → Type 0 = λ set. AcceptanceSteps boot.hosts set (pages.first + pages.count) pages.first None now in
     subst P (piece-set boot done pages table old states one.taken) one.steps
-
-both-second : (b c : Bool) → (b && c) ≡ true → c ≡ true
-both-second true c h = h
-both-second false c h = cc
 
 -- the states after them
 pub piece-states : (boot : Boot) (done now : List ModuleCall) (pages : Pages) (table next old new : ℕ → Option PageState) → ((page : ℕ) → table page ≡ page_state boot done page) → OnePiece boot pages now table next old new → (page : ℕ) → next page ≡ page_state boot (done ++ now) page
@@ -119,10 +103,6 @@ bit-now boot done unit marks set =
     let P : List ModuleCall → Type 0 = λ calls. bit_after boot calls unit ≡ any_such (λ page. is_pending (page_state boot calls page)) (unit_first boot unit) (unit_pages boot) in
     subst P (append-nil done) (bits-inside boot done [] unit marks tt set)
 
-not-set : (b : Bool) → b ≢ true → b ≡ false
-not-set false h = refl
-not-set true h = absurd (h refl)
-
 -- pages apart from all units that were set at first change no bit
 pub apart-bits : (boot : Boot) (done now : List ModuleCall) (pages : Pages) → ((unit page : ℕ) → bit_of boot.bits unit ≡ true → in_range (unit_first boot unit) (unit_pages boot) page ≡ true → in_range pages.first pages.count page ≡ false)
     → MarksArePending boot done → ((unit : ℕ) → bit_after boot done unit ≡ true → bit_of boot.bits unit ≡ true) → AcceptanceSteps boot.hosts (pending_piece boot done pages) (pages.first + pages.count) pages.first None now → (unit : ℕ) → bit_after boot done unit ≡ bit_after boot (done ++ now) unit
@@ -139,13 +119,13 @@ apart-bits boot done now pages apart marks held steps unit =
                 ∙ sym (ap (λ (f : ℕ → Option PageState). f page) (state_after-append (first_state_of boot.ram) done now)));
           })
           ∙ sym (bits-inside boot done now unit marks accepts t))
-      | inr f ↦ f ∙ sym (not-set _ (λ set. let no : true ≡ false = sym (bit-less boot done now unit (accepts-none now accepts) set) ∙ f in cc))
+      | inr f ↦ f ∙ sym (false_from_ne_true _ (λ set. let no : true ≡ false = sym (bit-less boot done now unit (accepts-none now accepts) set) ∙ f in cc))
     ]
 
 pub piece-sound : (boot : Boot) (done now : List ModuleCall) (pages : Pages) → SoundCalls (first_state_of boot.ram) done → AcceptanceSteps boot.hosts (pending_piece boot done pages) (pages.first + pages.count) pages.first None now → SoundCalls (first_state_of boot.ram) (done ++ now)
 piece-sound boot done now pages sound steps =
     SoundCalls-append (first_state_of boot.ram) done now sound
-    (steps-sound boot.hosts _ _ _ _ now (page_state boot done) (λ page low in_set. pending-is (page_state boot done page) (both-second _ _ in_set)) steps)
+    (steps-sound boot.hosts _ _ _ _ now (page_state boot done) (λ page low in_set. pending-is (page_state boot done page) ((and_parts _ _ in_set).1)) steps)
 
 -- ---- an early piece
 

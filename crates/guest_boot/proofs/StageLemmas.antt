@@ -1,62 +1,63 @@
-use Rattle.std.proofs.Common.{◌≡◌, ℕ, Option, None, Some, List, [], ◌++◌, refl, sym, ◌∙◌, ap, subst, map, append-nil}
+use Rattle.std.proofs.Common.{◌≡◌, ℕ, Option, None, Some, List, [], ◌∷◌, ◌++◌, refl, sym, ◌∙◌, ap, subst, map, append-nil, append_assoc}
+use Rattle.std.specs.Prelude.{Result}
 use Rattle.guest_base.specs.declared.memory.Block.{Block}
 use Rattle.guest_base.specs.declared.memory.Page.{Page}
 use Rattle.guest_base.specs.declared.memory.Pages.{Pages}
 use Rattle.guest_base.specs.declared.memory.PageRun.{PageRun}
 use Rattle.event_core.specs.declared.boot.Boot.{Boot}
 use Rattle.event_core.specs.declared.module_call.ModuleCall.{ModuleCall}
-use Rattle.event_core.specs.Boot.{InTurn, StagePart, Stage, Early, PoolAccepted, PoolShared, BlockAccepted, AcceptsPiece, AcceptsBlock, stages_of, pool_stages}
+use Rattle.event_core.specs.Boot.{InTurn, StagePart, Stage, Early, PoolAccepted, PoolShared, BlockAccepted, AcceptsBlock, stages_of, pool_stages}
 use Rattle.event_core.specs.Cut.{cut}
 use Rattle.event_core.specs.MemoryRows.{pending_in}
 use Rattle.event_core.specs.Units.{bit_after}
 use Rattle.unaccepted_bitmap.specs.StubMap.{pending_run}
 use Rattle.memory_core.specs.Bitmaps.{BitsAfter}
 use Rattle.event_core.specs.Table.{Bits}
-use Rattle.guest_boot.specs.Booting.{Grew}
-use Rattle.guest_boot.proofs.InTurnLemmas.{Parts, turn-append, turn-before, turn-map, turn-unmap, turn-same}
+use Rattle.event_core.proofs.FrontLemmas.{stage-exists}
+use Rattle.guest_boot.specs.Booting.{Grew, EndedBy, LeftBy, AcceptsRunPiece, stages_by}
+use Rattle.guest_boot.specs.declared.fault.BootFault.{BootFault}
+use Rattle.guest_boot.specs.declared.fault.BootFault.TheVariants.{Module, NoMemory}
+use Rattle.guest_boot.proofs.InTurnLemmas.{ended-on, turn-append, turn-before, turn-front, turn-map, turn-same}
 
 -- The stages of boot, one behind the other.
 
 -- the pieces as they are kept
-abbrev pub RunPart : Boot → Parts PageRun
-RunPart boot before run now stop = AcceptsPiece boot before run.pages now stop
+early-turn : (boot : Boot) (done : List ModuleCall) (runs : List PageRun) (calls : List ModuleCall) (stop : Option Page) → InTurn (AcceptsRunPiece boot) done runs calls stop → InTurn (StagePart boot) done (map (λ (run : PageRun). Early run.pages) runs) calls stop
+early-turn boot done runs calls stop turn = turn-map (StagePart boot) (λ (run : PageRun). Early run.pages) done runs calls stop turn
 
-early-turn : (boot : Boot) (done : List ModuleCall) (runs : List PageRun) (pieces : List Pages) (calls : List ModuleCall) (stop : Option Page) → runs ≡ map pending_run pieces → InTurn (RunPart boot) done runs calls stop → InTurn (StagePart boot) done (map Early pieces) calls stop
-early-turn boot done runs pieces calls stop are turn =
-    let P : List PageRun → Type 0 = λ rs. InTurn (RunPart boot) done rs calls stop in
-    turn-map (StagePart boot) Early done pieces calls stop (turn-unmap (RunPart boot) pending_run done pieces calls stop (subst P are turn))
-
-stages-are : (boot : Boot) (pieces : List Pages) (blocks : List Block) → boot.pool ≡ None → blocks ≡ cut boot → map Early pieces ++ map BlockAccepted blocks ≡ stages_of boot pieces
-stages-are boot pieces blocks none is =
-    ap (λ stages. stages ++ map BlockAccepted blocks) (sym (append-nil (map Early pieces)))
-    ∙ ap (λ bs. (map Early pieces ++ []) ++ map BlockAccepted bs) is
-    ∙ ap (λ p. (map Early pieces ++ pool_stages p) ++ map BlockAccepted (cut boot)) (sym none)
-
--- it stops at an early piece
-pub early-stops : (boot : Boot) (done made : List ModuleCall) (runs : List PageRun) (pieces : List Pages) (blocks : List Block) (page : Page) → done ≡ [] → boot.pool ≡ None → blocks ≡ cut boot → runs ≡ map pending_run pieces
-    → Grew done made (λ now. InTurn (RunPart boot) done runs now (Some page)) → InTurn (StagePart boot) [] (stages_of boot pieces) made (Some page)
-early-stops boot done made runs pieces blocks page start none is are (now, grew, turn) =
-    let P : List ModuleCall → Type 0 = λ d. InTurn (RunPart boot) d runs now (Some page) in
-    let Q : List Stage → Type 0 = λ stages. InTurn (StagePart boot) [] stages made (Some page) in
-    let R : List ModuleCall → Type 0 = λ calls. InTurn (StagePart boot) [] (map Early pieces) calls (Some page) in
-    let made_is : now ≡ made = sym (grew ∙ ap (λ d. d ++ now) start) in
-    subst Q (stages-are boot pieces blocks none is)
-    (turn-before (StagePart boot) [] (map Early pieces) (map BlockAccepted blocks) made page (subst R made_is (early-turn boot [] runs pieces now (Some page) are (subst P start turn))))
+-- boot ends at an early piece
+pub early-ends : (boot : Boot) (done made : List ModuleCall) (runs : List PageRun) (e : BootFault) → Grew done made (LeftBy e (InTurn (AcceptsRunPiece boot) done runs)) → Grew done made (LeftBy e (InTurn (StagePart boot) done (stages_by boot runs)))
+early-ends boot done made runs (Module page) (now, grew, turn) =
+    (now, grew, turn-before (StagePart boot) done (map (λ (run : PageRun). Early run.pages) runs) (map BlockAccepted (cut boot)) now page (early-turn boot done runs now (Some page) turn))
+early-ends boot done made runs NoMemory (now, grew, (later, stop, turn)) =
+    (now, grew, turn-front (StagePart boot) done (map (λ (run : PageRun). Early run.pages) runs) (map BlockAccepted (cut boot)) now (stage-exists boot) (later, stop, early-turn boot done runs (now ++ later) stop turn))
 
 -- the blocks behind the early pieces
-pub blocks-behind : (boot : Boot) (done mid made : List ModuleCall) (runs : List PageRun) (pieces : List Pages) (blocks : List Block) (stop : Option Page) → done ≡ [] → boot.pool ≡ None → blocks ≡ cut boot → runs ≡ map pending_run pieces
-    → Grew done mid (λ now. InTurn (RunPart boot) done runs now None) → Grew mid made (λ now. InTurn (AcceptsBlock boot) mid blocks now stop) → InTurn (StagePart boot) [] (stages_of boot pieces) made stop
-blocks-behind boot done mid made runs pieces blocks stop start none is are (now, grew, turn) (later, grown, behind) =
-    let P : List ModuleCall → Type 0 = λ d. InTurn (RunPart boot) d runs now None in
-    let Q : List Stage → Type 0 = λ stages. InTurn (StagePart boot) [] stages made stop in
-    let R : List ModuleCall → Type 0 = λ calls. InTurn (StagePart boot) [] (map Early pieces ++ map BlockAccepted blocks) calls stop in
-    let S : List ModuleCall → Type 0 = λ d. InTurn (AcceptsBlock boot) d blocks later stop in
-    let mid_is : mid ≡ now = grew ∙ ap (λ d. d ++ now) start in
-    let made_is : now ++ later ≡ made = sym (grown ∙ ap (λ m. m ++ later) mid_is) in
-    subst Q (stages-are boot pieces blocks none is)
-    (subst R made_is
-    (turn-append (StagePart boot) [] (map Early pieces) (map BlockAccepted blocks) now later stop (early-turn boot [] runs pieces now None are (subst P start turn))
-    (turn-map (StagePart boot) BlockAccepted now blocks later stop (subst S mid_is behind))))
+pub blocks-behind : {T : Type 0} (r : Result T BootFault) (boot : Boot) (done mid made : List ModuleCall) (runs : List PageRun) (blocks : List Block) → blocks ≡ cut boot
+    → Grew done mid (λ now. InTurn (AcceptsRunPiece boot) done runs now None) → Grew mid made (EndedBy r (InTurn (AcceptsBlock boot) mid blocks)) → Grew done made (EndedBy r (InTurn (StagePart boot) done (stages_by boot runs)))
+blocks-behind r boot done mid made runs blocks is (now, grew, turn) (later, grown, behind) = (
+  now ++ later,
+  grown ∙ ap (λ m. m ++ later) grew ∙ append_assoc done now later,
+  ended-on r (InTurn (AcceptsBlock boot) mid blocks) (InTurn (StagePart boot) done (stages_by boot runs)) now later
+      (λ calls stop blocks_turn.
+      let P : List ModuleCall → Type 0 = λ m. InTurn (AcceptsBlock boot) m blocks calls stop in
+      let Q : List Block → Type 0 = λ bs. InTurn (StagePart boot) (done ++ now) (map BlockAccepted bs) calls stop in
+      turn-append (StagePart boot) done (map (λ (run : PageRun). Early run.pages) runs) (map BlockAccepted (cut boot)) now calls stop (early-turn boot done runs now None turn)
+      (subst Q is (turn-map (StagePart boot) BlockAccepted (done ++ now) blocks calls stop (subst P grew blocks_turn))))
+      behind,
+)
+
+-- ---- the stages as they are kept are boot's
+
+kept-pieces : (pieces : List Pages) → map (λ (run : PageRun). Early run.pages) (map pending_run pieces) ≡ map Early pieces
+kept-pieces [] = refl
+kept-pieces (pages ∷ pieces) = ap (λ stages. Early pages ∷ stages) (kept-pieces pieces)
+
+pub stages-are : (boot : Boot) (runs : List PageRun) (pieces : List Pages) → boot.pool ≡ None → runs ≡ map pending_run pieces → stages_by boot runs ≡ stages_of boot pieces
+stages-are boot runs pieces none are =
+    ap (stages_by boot) are
+    ∙ ap (λ stages. stages ++ map BlockAccepted (cut boot)) (kept-pieces pieces ∙ sym (append-nil (map Early pieces)))
+    ∙ ap (λ p. (map Early pieces ++ pool_stages p) ++ map BlockAccepted (cut boot)) (sym none)
 
 -- ---- the calls, which the definitions of the stages don't read
 

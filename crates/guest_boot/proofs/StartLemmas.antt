@@ -1,76 +1,53 @@
-use Rattle.std.proofs.Common.{◌≡◌, ◌≢◌, ℕ, suc, get_or, ◌+◌, ◌*◌, ◌/◌, ◌%◌, ◌^◌, ◌<◌, ◌≤◌, Bool, true, false, ◌&&◌, Option, None, Some, List, [], ◌∷◌, refl, sym, ◌∙◌, ap, subst, inl, inr, arith, cond, length, map}
-use Rattle.std.specs.Prelude.{All, AllPairs, ◌-◌, nat_lt, nat_le, not, find, slice_index, ◌==◌}
+use Rattle.std.proofs.Common.{◌≡◌, ℕ, suc, get_or, ◌+◌, ◌*◌, ◌/◌, ◌%◌, ◌^◌, ◌<◌, ◌≤◌, Bool, true, false, ◌&&◌, Option, None, Some, List, [], ◌∷◌, refl, sym, ◌∙◌, ap, subst, inl, inr, arith, length, map}
+use Rattle.std.specs.Prelude.{All, AllPairs, nat_lt, slice_index, ◌==◌}
 use Rattle.std.specs.Int.{bit_at}
 use Rattle.std.specs.List.{AllByRecursion, flat_map}
-use Rattle.std.specs.Option.{option_map}
-use Rattle.std.proofs.lemmas.Bool.{cases_Bool, cases_lt}
-use Rattle.std.proofs.lemmas.Bool.Decides.{nat_tests}
+use Rattle.std.proofs.lemmas.Bool.{cases_Bool}
 use Rattle.std.proofs.lemmas.List.Elements.{recursion_from_All}
 use Rattle.guest_base.specs.Ranges.{in_range}
 use Rattle.guest_base.specs.Search.{any_such}
-use Rattle.guest_base.proofs.RangeLemmas.{in_range-elim}
-use Rattle.guest_base.proofs.SearchLemmas.{any_such_is, any_such_none, first_such-None, each_such-true}
+use Rattle.guest_base.proofs.SearchLemmas.{any_such_is, any_such_none}
 use Rattle.guest_base.specs.declared.memory.Pages.{Pages}
 use Rattle.guest_base.specs.declared.memory.PageRun.{PageRun}
-use Rattle.guest_base.specs.declared.memory.PageState.{PageState}
-use Rattle.guest_base.specs.declared.memory.PageState.TheVariants.{Pending, Accepted}
 use Rattle.guest_base.specs.declared.memory.HostRun.{HostRun}
 use Rattle.event_core.specs.declared.boot.Descriptor.{Descriptor}
 use Rattle.event_core.specs.declared.boot.Boot.{Boot}
 use Rattle.event_core.specs.Cut.{cut, blocks_of, ram_ranges, without_pool}
-use Rattle.event_core.specs.Map.{MapRules, first_state, unaccepted_page, ram_page}
-use Rattle.event_core.specs.Given.{FitsGiven, first_by, unit_by, base_by, length_by, bit_by}
+use Rattle.event_core.specs.Map.{MapRules}
+use Rattle.event_core.specs.Given.{first_by, unit_by, base_by, length_by, bit_by}
 use Rattle.event_core.specs.MemoryRows.{is_pending}
-use Rattle.event_core.specs.Runs.{AreMaximalRuns, GoesBefore, run_holds, run_end, state_in as first_state_of}
-use Rattle.event_core.specs.Stub.{default_unit, unaccepted, round_down, least_start, stub_base, stub_bit}
+use Rattle.event_core.specs.Runs.{AreMaximalRuns, GoesBefore, run_end}
+use Rattle.event_core.specs.Stub.{default_unit, unaccepted, round_down, least_start, stub_base}
 use Rattle.event_core.specs.Units.{bit_of, bit_after, unit_count, unit_first, unit_pages}
-use Rattle.event_core.proofs.MapLemmas.{first_none, any_pending, pending_first}
+use Rattle.event_core.proofs.MapLemmas.{pending_first}
+use Rattle.event_core.proofs.BootFacts.{set-unit, states-low}
+use Rattle.event_core.proofs.EarlyLemmas.{pairs-tail, all-apart, early-held, unaccepted-each, unaccepted-apart}
+use Rattle.event_core.specs.Boot.{Uncalled}
 use Rattle.page_module.specs.States.{state_in}
 use Rattle.page_module.specs.Tables.{Rising}
-use Rattle.event_core.specs.Table.{Bits, FitsTable, marks_page, is_unaccepted_unit, bad_unit}
+use Rattle.event_core.specs.Table.{Bits}
 use Rattle.unaccepted_bitmap.specs.StubMap.{StubBitmap, EarlyRuns, pending_run}
-use Rattle.unaccepted_bitmap.proofs.TableFacts.{unit_facts}
 use Rattle.memory_core.specs.Bitmaps.{bits_in, SameBits}
 use Rattle.memory_core.specs.Booted.{IsBooted}
 use Rattle.guest_boot.specs.Booting.{StandsAfter, IsEarly}
-use Rattle.guest_boot.specs.Starting.{Uncalled, IsFirstBoot, BitsOf, BitmapBy, EarlyRunsBy}
+use Rattle.guest_boot.specs.Starting.{IsFirstBoot, BitsOf, BitmapBy, EarlyRunsBy}
 use Rattle.guest_boot.specs.declared.accept.Kept.{Kept}
 use Rattle.guest_boot.proofs.CutLemmas.{runs-low}
-use Rattle.guest_boot.proofs.EarlyLemmas.{UnitHolds, all-apart, early-held, early-at, unaccepted-each, unaccepted-apart}
+use Rattle.guest_boot.proofs.EarlyLemmas.{early-at}
 
 -- What a guest is before boot's first call.
 
 -- ---- RAM
 
--- what isn't RAM by the map has no first state by a table either
-none-marked : (b c m : Bool) → cond b (Some Pending) (cond c (Some Accepted) None) ≡ None → cond (b && m) (Some Pending) (cond c (Some Accepted) None) ≡ None
-none-marked false c m h = h
-none-marked true c m h = cc
-
-none-by : (map : List Descriptor) (table : Option Bits) (page : ℕ) → first_state map page ≡ None → first_by map table page ≡ None
-none-by map None page h = h
-none-by map (Some t) page h = none-marked (unaccepted_page map page) (ram_page map page) (marks_page t page) h
-
--- RAM of a map lies in memory
-pub states-low : (map : List Descriptor) (hosts : List HostRun) (table : Option Bits) → MapRules map hosts → (page : ℕ) → first_by map table page ≢ None → page < 2 ^ 28
-states-low map hosts table rules page some =
-    elim (cases_lt page (2 ^ 28)) [
-      | inl low ↦ low
-      | inr high ↦ absurd (some (none-by map table page (first_none map page rules.each high)))
-    ]
-
 pub ram-ends : (map : List Descriptor) (hosts : List HostRun) (table : Option Bits) (ram : List PageRun) → MapRules map hosts → AreMaximalRuns (first_by map table) ram → All (λ (run : PageRun). run_end run ≤ 2 ^ 28) ram
 ram-ends map hosts table ram rules maximal = runs-low (2 ^ 28) (first_by map table) ram maximal (states-low map hosts table rules)
-
-pairs-tail : (run : PageRun) (runs : List PageRun) → AllPairs GoesBefore (run ∷ runs) → AllPairs GoesBefore runs
-pairs-tail run runs pairs i j d lt high = pairs (suc i) (suc j) d (omega arith) (omega arith)
 
 behind-first : (run : PageRun) (runs : List PageRun) → AllPairs GoesBefore (run ∷ runs) → AllByRecursion (λ (r : PageRun). run_end run ≤ r.pages.first) runs
 behind-first run runs pairs = recursion_from_All (λ (r : PageRun). run_end run ≤ r.pages.first) runs (λ k d low. (pairs 0 (suc k) d (omega arith) (omega arith)).ends)
 
 rising-of : (from : ℕ) (runs : List PageRun) → AllByRecursion (λ (run : PageRun). 0 < run.pages.count) runs → AllByRecursion (λ (run : PageRun). run_end run ≤ 2 ^ 28) runs → AllPairs GoesBefore runs → AllByRecursion (λ (run : PageRun). from ≤ run.pages.first) runs → Rising from runs
 rising-of from [] some ends pairs low = tt
-rising-of from (run ∷ runs) some ends pairs low = (low.0, some.0, ends.0, rising-of (run_end run) runs some.1 ends.1 (pairs-tail run runs pairs) (behind-first run runs pairs))
+rising-of from (run ∷ runs) some ends pairs low = (low.0, some.0, ends.0, rising-of (run_end run) runs some.1 ends.1 (pairs-tail GoesBefore run runs pairs) (behind-first run runs pairs))
 
 from_zero : (runs : List PageRun) → AllByRecursion (λ (run : PageRun). 0 ≤ run.pages.first) runs
 from_zero [] = tt
@@ -80,14 +57,6 @@ pub ram-rises : (map : List Descriptor) (hosts : List HostRun) (table : Option B
 ram-rises map hosts table ram rules maximal =
     rising-of 0 ram (recursion_from_All (λ (run : PageRun). 0 < run.pages.count) ram maximal.some)
     (recursion_from_All (λ (run : PageRun). run_end run ≤ 2 ^ 28) ram (ram-ends map hosts table ram rules maximal)) maximal.rise (from_zero ram)
-
-same-found : (b : Bool) (run : PageRun) (rest : Option PageState) (others : Option PageRun) → rest ≡ option_map (λ (r : PageRun). r.state) others → cond b (Some run.state) rest ≡ option_map (λ (r : PageRun). r.state) (cond b (Some run) others)
-same-found true run rest others h = refl
-same-found false run rest others h = h
-
-state-same : (runs : List PageRun) (page : ℕ) → state_in runs page ≡ first_state_of runs page
-state-same [] page = refl
-state-same (run ∷ runs) page = same-found (in_range run.pages.first run.pages.count page) run (state_in runs page) (find (run_holds page) runs) (state-same runs page)
 
 -- ---- the bits
 
@@ -129,94 +98,6 @@ first-bit boot unit some = elim (cases_Bool (nat_lt unit (unit_count boot.bits))
 
 -- ---- a boot without its calls
 
--- a page of a unit lies in the unit's bytes
-in_unit : (base size unit least page : ℕ) → size ≡ 2097152 → base ≡ least / 2097152 * 2097152 → in_range (base / 4096 + unit * (size / 4096)) (size / 4096) page ≡ true → UnitHolds (base + unit * 2097152) page
-in_unit base size unit least page is down inside =
-    let pages : size / 4096 ≡ 512 = ap (λ s. s / 4096) is in
-    let here : in_range (base / 4096 + unit * 512) 512 page ≡ true = rw pages at inside in
-    record { low = grind (arith, nat_tests); high = grind (arith, nat_tests); even = omega (arith, down) }
-
-first-both : (b c : Bool) → (b && c) ≡ true → b ≡ true
-first-both true c h = refl
-first-both false c h = cc
-
-lt-of : (a b : ℕ) → nat_lt a b ≡ true → a < b
-lt-of a b h = grind arith
-
--- a set unit is one of the stub's, and holds its pages
-set-unit : (map : List Descriptor) (hosts : List HostRun) (slots areas cpus : ℕ) (boot : Boot) → Uncalled map hosts None slots areas cpus boot → (unit page : ℕ) → bit_of boot.bits unit ≡ true → in_range (unit_first boot unit) (unit_pages boot) page ≡ true → (stub_bit map unit ≡ true) × UnitHolds (stub_base map + unit * default_unit) page
-set-unit map hosts slots areas cpus boot plain unit page set inside =
-    let at = in_unit boot.base boot.unit unit (least_start (unaccepted map)) page plain.unit plain.base inside in
-    let below = lt-of unit (unit_count boot.bits) (first-both _ _ set) in
-    let place : boot.base + unit * 2097152 ≡ stub_base map + unit * default_unit = ap (λ base. base + unit * 2097152) plain.base in
-    (sym (plain.bits unit below) ∙ set, subst (λ a. UnitHolds a page) place at)
-
-quarter : (at : ℕ) → at % 2097152 ≡ 0 → at % 4096 ≡ 0
-quarter at even = omega (arith, even)
-
--- ---- the units of a table
-
-unit-of : (base size unit page : ℕ) → base + unit * size ≤ page → page < base + unit * size + size → (page - base) / size ≡ unit
-unit-of base size unit page low high = grind arith
-
-marked-at : (table : Bits) (unit page : ℕ) → bit_of table.bits unit ≡ true → in_range (table.base / 4096 + unit * (table.unit / 4096)) (table.unit / 4096) page ≡ true → marks_page table page ≡ true
-marked-at table unit page set inside =
-    let within = in_range-elim (table.base / 4096 + unit * (table.unit / 4096)) (table.unit / 4096) page inside in
-    let first = within.0 in
-    let low : nat_le (table.base / 4096) page ≡ true = grind (arith, nat_tests, first) in
-    rw low (ap (bit_of table.bits) (unit-of (table.base / 4096) (table.unit / 4096) unit page within.0 within.1) ∙ set)
-
-not-false : (b : Bool) → not b ≡ false → b ≡ true
-not-false true h = refl
-not-false false h = cc
-
-fits-page : (map : List Descriptor) (table : Bits) (unit page : ℕ) → FitsTable map table → bit_of table.bits unit ≡ true → in_range (table.base / 4096 + unit * (table.unit / 4096)) (table.unit / 4096) page ≡ true → unaccepted_page map page ≡ true
-unfolding bad_unit
-fits-page map table unit page fits set inside =
-    let below = lt-of unit (unit_count table.bits) (first-both _ _ set) in
-    let end : unit < 0 + unit_count table.bits = omega (arith, below) in
-    let none = (first_such-None _ 0 (unit_count table.bits) fits.none_bad).fails unit (omega arith) end in
-    let whole : is_unaccepted_unit map table unit ≡ true = not-false _ (rw set at none) in
-    let within = in_range-elim (table.base / 4096 + unit * (table.unit / 4096)) (table.unit / 4096) page inside in
-    (each_such-true (unaccepted_page map) _ _ whole).passes page within.0 within.1
-
--- the pages of a set unit are pending at first
-set-first : (map : List Descriptor) (hosts : List HostRun) (table : Option Bits) (slots areas cpus : ℕ) (boot : Boot) → MapRules map hosts → FitsGiven map table → Uncalled map hosts table slots areas cpus boot → (unit page : ℕ) → bit_of boot.bits unit ≡ true → in_range (unit_first boot unit) (unit_pages boot) page ≡ true → first_state_of boot.ram page ≡ Some Pending
-set-first map hosts None slots areas cpus boot rules fits plain unit page set inside =
-    let u = set-unit map hosts slots areas cpus boot plain unit page set inside in
-    plain.ram.each page ∙ pending_first map page (any_pending (stub_base map + unit * default_unit) page map rules.each u.0 u.1.low u.1.high (quarter _ u.1.even))
-set-first map hosts (Some table) slots areas cpus boot rules fits plain unit page set inside =
-    let below = lt-of unit (unit_count boot.bits) (first-both _ _ set) in
-    let is : bit_of table.bits unit ≡ true = sym (plain.bits unit below) ∙ set in
-    let here : in_range (table.base / 4096 + unit * (table.unit / 4096)) (table.unit / 4096) page ≡ true =
-    sym (ap (λ base. in_range (base / 4096 + unit * (boot.unit / 4096)) (boot.unit / 4096) page) plain.base ∙ ap (λ size. in_range (table.base / 4096 + unit * (size / 4096)) (size / 4096) page) plain.unit) ∙ inside in
-    plain.ram.each page ∙ rw (fits-page map table unit page fits is here, marked-at table unit page is here) refl
-
-record IsSize (pages : ℕ) : Type 0 where
-  pub some : 0 < pages
-  pub small : pages ≤ 512
-
-unit-size : (map : List Descriptor) (table : Option Bits) → FitsGiven map table → IsSize (unit_by table / 4096)
-unit-size map None fits = record { some = omega arith; small = omega arith }
-unit-size map (Some table) fits =
-    let facts = unit_facts table.unit fits.is_table.unit_is in
-    let some = facts.some in
-    let whole = facts.whole in
-    let small = facts.small in
-    record { some = omega arith; small = omega arith }
-
-pub is-booted : (map : List Descriptor) (hosts : List HostRun) (table : Option Bits) (slots areas cpus : ℕ) (boot : Boot) → MapRules map hosts → FitsGiven map table → Uncalled map hosts table slots areas cpus boot → cpus ≤ 64 → IsBooted boot
-is-booted map hosts table slots areas cpus boot rules fits plain few =
-    let size = subst (λ u. IsSize (u / 4096)) (sym plain.unit) (unit-size map table fits) in
-    let many = plain.same_cpus in
-    record {
-      pending = set-first map hosts table slots areas cpus boot rules fits plain;
-      low = λ page some. states-low map hosts table rules page (λ none. some (plain.ram.each page ∙ none));
-      some = size.some;
-      small = size.small;
-      cpus = omega (arith, many, few);
-    }
-
 early-stub : (map : List Descriptor) (hosts : List HostRun) (slots areas cpus : ℕ) (boot : Boot) (runs : List PageRun) → MapRules map hosts → Uncalled map hosts None slots areas cpus boot → EarlyRuns map runs → All (λ (piece : PageRun). IsEarly boot piece.pages) runs
 early-stub map hosts slots areas cpus boot runs rules plain early k d within = record {
   pending = λ page inside. plain.ram.each page ∙ pending_first map page (early-held page map rules.each (early-at map runs k d page early within inside));
@@ -240,7 +121,7 @@ early-each descriptors hosts (Some table) slots areas cpus boot runs rules plain
 -- what is kept before the first call
 pub first-stands : (boot : Boot) (kept : Kept) → IsBooted boot → ((page : ℕ) → state_in kept.table.runs page ≡ state_in boot.ram page) → kept.table.out ≡ [] → BitsOf boot kept.bits → kept.calls.items ≡ [] → StandsAfter boot [] kept
 first-stands boot kept booted states out bits calls = record {
-  states = λ page. states page ∙ state-same boot.ram page;
+  states = states;
   none_out = out;
   bits = record { same = first-same boot kept.bits bits; set = λ unit. first-set boot kept.bits unit bits ∙ sym (first-bit boot unit booted.some) };
   marks = λ unit page set inside. (let was = sym (first-bit boot unit booted.some) ∙ set in was ∙ sym (ap is_pending (booted.pending unit page was inside)));

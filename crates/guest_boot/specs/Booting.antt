@@ -1,12 +1,16 @@
-use Rattle.std.specs.Prelude.{ℕ, List, [], ◌∷◌, ◌++◌, Option, None, Some, Bool, true, false, ◌≡◌, if◌then◌else◌}
+use Rattle.std.specs.Prelude.{ℕ, List, [], ◌∷◌, ◌++◌, Option, None, Some, Bool, true, false, Result, Ok, Err, OnOk, ◌≡◌, ◌≤◌, map, if◌then◌else◌}
+use Rattle.guest_base.specs.Counts.{Rose}
 use Rattle.guest_base.specs.Ranges.{in_range}
 use Rattle.guest_base.specs.declared.memory.HostRun.{HostRun}
+use Rattle.guest_base.specs.declared.memory.Page.{Page}
 use Rattle.guest_base.specs.declared.memory.Pages.{Pages}
+use Rattle.guest_base.specs.declared.memory.PageRun.{PageRun}
 use Rattle.guest_base.specs.declared.memory.Units.{Units}
 use Rattle.guest_base.specs.declared.memory.PageState.TheVariants.{Pending}
 use Rattle.event_core.specs.declared.boot.Boot.{Boot}
 use Rattle.event_core.specs.declared.module_call.ModuleCall.{ModuleCall}
-use Rattle.event_core.specs.Boot.{runs_from}
+use Rattle.event_core.specs.Boot.{runs_from, IsFront, AcceptsPiece, Stage, Early, BlockAccepted}
+use Rattle.event_core.specs.Cut.{cut}
 use Rattle.event_core.specs.Calls.{SoundCalls}
 use Rattle.event_core.specs.MemoryRows.{page_state}
 use Rattle.event_core.specs.Runs.{state_in as first_state_of}
@@ -18,6 +22,8 @@ use Rattle.accept_sizes.specs.Accepts.{Accepts}
 use Rattle.memory_core.specs.Bitmaps.{BitsAfter}
 use Rattle.memory_core.specs.Booted.{MarksArePending}
 use Rattle.guest_boot.specs.declared.accept.Kept.{Kept}
+use Rattle.guest_boot.specs.declared.fault.BootFault.{BootFault}
+use Rattle.guest_boot.specs.declared.fault.BootFault.TheVariants.{Module, NoMemory}
 
 -- What is kept of a guest while it boots.
 
@@ -35,6 +41,40 @@ pub record StandsAfter (boot : Boot) (done : List ModuleCall) (kept : Kept) : Ty
 -- calls were made behind those before, and P holds of them
 abbrev pub Grew : List ModuleCall → List ModuleCall → (List ModuleCall → Type 0) → Type 0
 Grew before after P = (now : List ModuleCall) × (after ≡ before ++ now) × P now
+
+-- calls of a part of boot that was left early: those up to the page at which it stopped, or where
+-- memory ran out a front of them
+abbrev pub LeftBy : BootFault → (List ModuleCall → Option Page → Type 0) → List ModuleCall → Type 0
+LeftBy (Module page) Part now = Part now (Some page)
+LeftBy NoMemory Part now = IsFront Part now
+
+-- calls of a part of boot, by the result of the work on it
+abbrev pub EndedBy : {T : Type 0}
+    → Result T BootFault → (List ModuleCall → Option Page → Type 0) → List ModuleCall → Type 0
+EndedBy (Ok done) Part now = Part now None
+EndedBy (Err fault) Part now = LeftBy fault Part now
+
+-- A part of boot was worked on: the calls behind those before are the part's, and where it was done
+-- what is kept stands for all.
+pub record WorkedOn {T : Type 0} (boot : Boot) (Part : List ModuleCall → Option Page → Type 0)
+    (before after : List ModuleCall) (kept : Kept) (result : Result T BootFault) : Type 0 where
+  pub made : Grew before after (EndedBy result Part)
+  pub stands : OnOk result (StandsAfter boot after kept)
+
+-- the count of faults never falls, and rises where boot stopped at a page
+pub record FaultsBy {T : Type 0} (before after : ℕ) (result : Result T BootFault) : Type 0 where
+  pub kept : before ≤ after
+  pub rose : (page : Page) → result ≡ Err (Module page) → Rose before after
+
+-- an early piece, as it is kept, is accepted by sizes
+abbrev pub AcceptsRunPiece :
+    Boot → List ModuleCall → PageRun → List ModuleCall → Option Page → Type 0
+AcceptsRunPiece boot before piece calls stop = AcceptsPiece boot before piece.pages calls stop
+
+-- the stages of a boot without a pool, of the early pieces as they are kept
+abbrev pub stages_by : Boot → List PageRun → List Stage
+stages_by boot pieces =
+    map (λ (piece : PageRun). Early piece.pages) pieces ++ map BlockAccepted (cut boot)
 
 -- the runs of units that pass a test, among some
 abbrev pub runs_in : (ℕ → Bool) → Option Units → List Units

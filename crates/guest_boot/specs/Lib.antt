@@ -1,4 +1,3 @@
 pub mod Worlds
-pub mod Stopped
 pub mod Booting
 pub mod Starting

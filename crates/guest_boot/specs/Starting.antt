@@ -1,32 +1,16 @@
-use Rattle.std.specs.Prelude.{ℕ, List, [], Option, None, Some, ◌≡◌, ◌<◌, ◌==◌, length, map, if◌then◌else◌}
-use Rattle.guest_base.specs.Requests.{raised_slots}
+use Rattle.std.specs.Prelude.{ℕ, List, [], Option, None, Some, ◌≡◌, map}
 use Rattle.guest_base.specs.declared.memory.HostRun.{HostRun}
 use Rattle.guest_base.specs.declared.memory.Pages.{Pages}
 use Rattle.guest_base.specs.declared.memory.PageRun.{PageRun}
 use Rattle.event_core.specs.declared.boot.Boot.{Boot}
 use Rattle.event_core.specs.declared.boot.Descriptor.{Descriptor}
-use Rattle.event_core.specs.Boot.{PoolPlaced}
-use Rattle.event_core.specs.Given.{first_by, unit_by, base_by, length_by, bit_by, EarlyBy}
+use Rattle.event_core.specs.Given.{first_by, EarlyBy}
 use Rattle.event_core.specs.Runs.{AreMaximalRuns}
 use Rattle.event_core.specs.Stub.{default_unit}
-use Rattle.event_core.specs.Units.{bit_of, unit_count}
 use Rattle.event_core.specs.Table.{Bits}
 use Rattle.unaccepted_bitmap.specs.StubMap.{StubBitmap, pending_run}
 
 -- What boot makes of a map before its first call.
-
--- all but the calls is what boot makes of the map
-pub record Uncalled (map : List Descriptor) (hosts : List HostRun) (table : Option Bits) (slots areas cpus : ℕ) (boot : Boot) : Type 0 where
-  pub ram : AreMaximalRuns (first_by map table) boot.ram
-  pub same_hosts : boot.hosts ≡ hosts
-  pub unit : boot.unit ≡ unit_by table
-  pub base : boot.base ≡ base_by map table
-  pub bitmap : length boot.bits ≡ length_by map table
-  pub bits : (unit : ℕ) → unit < unit_count boot.bits → bit_of boot.bits unit ≡ bit_by map table unit
-  pub same_cpus : boot.cpus ≡ cpus
-  pub same_areas : boot.areas ≡ areas
-  pub raised : boot.slots ≡ (if slots == 0 then 0 else raised_slots slots areas)
-  pub pool : PoolPlaced boot boot.pool
 
 -- the recorded bitmap is this one; without one there are no bits
 abbrev pub BitsOf : Boot → Option Bits → Type 0

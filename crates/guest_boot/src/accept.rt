@@ -1,5 +1,6 @@
 //! The acceptance of pages while a guest boots.
-ghost use Rattle.std.specs.Prelude.{◌≡◌, ◌≢◌, ℕ, ◌++◌, ◌^◌, ◌<◌, ◌≤◌, [], None, Some, true, false, Err, IfOk, OnOk};
+ghost use Rattle.std.specs.Prelude.{◌≡◌, ◌≢◌, ℕ, ◌++◌, ◌^◌, ◌<◌, ◌≤◌, [], None, Some, true, false, Err, IfOk, OnOk, OnErr};
+ghost use Rattle.guest_base.specs.declared.limits.TheConstants.{PAGE_END};
 ghost use Rattle.guest_base.specs.Counts.{Rose};
 ghost use Rattle.guest_base.specs.Ranges.{in_range};
 ghost use Rattle.guest_base.specs.declared.memory.Page.{Page as PageValue};
@@ -9,7 +10,7 @@ ghost use Rattle.page_module.specs.States.{state_in};
 ghost use Rattle.accept_sizes.specs.Ends.{stopped_at};
 ghost use Rattle.memory_core.specs.Bitmaps.{bits_in};
 ghost use Rattle.memory_core.specs.Booted.{IsBooted};
-ghost use Rattle.guest_boot.specs.Booting.{StandsAfter, Grew, IsEarly, AcceptedOut};
+ghost use Rattle.guest_boot.specs.Booting.{StandsAfter, WorkedOn, FaultsBy, IsEarly, AcceptedOut};
 
 use crate::fault::BootFault;
 use accept_sizes::{CallLog, RunEnd, accept_run, most_calls};
@@ -38,7 +39,7 @@ struct Worked {
     end: RunEnd,
 }
 
-/// Takes pages out of the table, and accepts those that are pending by sizes. Want of memory comes before the first call.
+/// Takes pages out of the table, and accepts those that are pending by sizes. Out of memory comes before the first call.
 fn work<P: Port>(
     alloc: Global,
     hosts: &Hosts,
@@ -46,14 +47,19 @@ fn work<P: Port>(
     port: &mut P,
     pages: Pages,
 ) -> Result<Worked, AllocError>
-    requires few { pages.count ≤ 2 ^ 28 }
-    requires here { (page : ℕ) → in_range pages.first pages.count page ≡ true → state_in table.old.runs page ≢ None }
+    requires few { pages.count ≤ PAGE_END }
+    requires here { (page : ℕ) → in_range pages.first pages.count page ≡ true
+        → state_in table.old.runs page ≢ None }
     requires none_out { table.old.out ≡ [] }
-    ensures accepted { IfOk result (λ w. AcceptedOut hosts.now table.old table.new pages w.span w.calls) }
+    ensures accepted { IfOk result (λ w.
+        AcceptedOut hosts.now table.old table.new pages w.span w.calls) }
     ensures made { IfOk result (λ w. P.made port.new ≡ P.made port.old ++ w.calls) }
     ensures end { IfOk result (λ w. stop_of w.calls ≡ stopped_at w.end) }
-    ensures stopped { IfOk result (λ w. stopped_at w.end ≢ None → Rose (P.faults port.old) (P.faults port.new)) }
+    ensures stopped { IfOk result (λ w.
+        stopped_at w.end ≢ None → Rose (P.faults port.old) (P.faults port.new)) }
+    ensures unmade { OnErr result (P.made port.new ≡ P.made port.old) }
     ensures faults { P.faults port.old ≤ P.faults port.new }
+    ensures never_fails { P.never_fails port.old → P.never_fails port.new }
 {
     table.reserve(alloc, 2 * pages.count + 2)?;
     let most = most_calls(pages.count);
@@ -76,7 +82,8 @@ fn keep_calls(
 ) -> Result<(), BootFault>
     ensures calls { OnOk result (kept.new.items ≡ kept.old.items ++ calls.now) }
     ensures whole { OnOk result (stopped_at end ≡ None) }
-    ensures stopped { (page : PageValue) → result ≡ Err (BootFault.Module page) → stopped_at end ≡ Some page }
+    ensures stopped { (page : PageValue) → result ≡ Err (BootFault.Module page)
+        → stopped_at end ≡ Some page }
 {
     if let RunEnd::Stopped(page) = end {
         return Err(BootFault::Module(page));
@@ -96,12 +103,10 @@ pub(crate) fn accept_piece<P: Port>(
     requires booted { IsBooted boot.now }
     requires stands { StandsAfter boot.now (P.made port.old) kept.old }
     requires early { IsEarly boot.now pages }
-    ensures stands { OnOk result (StandsAfter boot.now (P.made port.new) kept.new) }
-    ensures made { OnOk result (Grew (P.made port.old) (P.made port.new) (λ now. AcceptsPiece boot.now (P.made port.old) pages now None)) }
-    ensures stopped { (page : PageValue) → result ≡ Err (BootFault.Module page)
-        → Grew (P.made port.old) (P.made port.new) (λ now. AcceptsPiece boot.now (P.made port.old) pages now (Some page)) }
-    ensures failed { (page : PageValue) → result ≡ Err (BootFault.Module page) → Rose (P.faults port.old) (P.faults port.new) }
-    ensures faults { P.faults port.old ≤ P.faults port.new }
+    ensures done { WorkedOn boot.now (AcceptsPiece boot.now (P.made port.old) pages)
+        (P.made port.old) (P.made port.new) kept.new result }
+    ensures faults { FaultsBy (P.faults port.old) (P.faults port.new) result }
+    ensures never_fails { P.never_fails port.old → P.never_fails port.new }
 {
     let Worked { span, calls, end } = work(alloc, &boot.hosts, &mut kept.table, port, pages)?;
     kept.table.put(span);
@@ -119,14 +124,14 @@ pub(crate) fn accept_units<P: Port>(
     requires booted { IsBooted boot.now }
     requires stands { StandsAfter boot.now (P.made port.old) kept.old }
     requires some { 0 < run.count }
-    requires set { (unit : ℕ) → in_range run.first run.count unit ≡ true → bits_in kept.old.bits unit ≡ true }
-    ensures stands { OnOk result (StandsAfter boot.now (P.made port.new) kept.new) }
-    ensures others { OnOk result ((unit : ℕ) → in_range run.first run.count unit ≡ false → bits_in kept.new.bits unit ≡ bits_in kept.old.bits unit) }
-    ensures made { OnOk result (Grew (P.made port.old) (P.made port.new) (λ now. AcceptsRun boot.now (P.made port.old) run now None)) }
-    ensures stopped { (page : PageValue) → result ≡ Err (BootFault.Module page)
-        → Grew (P.made port.old) (P.made port.new) (λ now. AcceptsRun boot.now (P.made port.old) run now (Some page)) }
-    ensures failed { (page : PageValue) → result ≡ Err (BootFault.Module page) → Rose (P.faults port.old) (P.faults port.new) }
-    ensures faults { P.faults port.old ≤ P.faults port.new }
+    requires set { (unit : ℕ) → in_range run.first run.count unit ≡ true
+        → bits_in kept.old.bits unit ≡ true }
+    ensures others { OnOk result ((unit : ℕ) → in_range run.first run.count unit ≡ false
+        → bits_in kept.new.bits unit ≡ bits_in kept.old.bits unit) }
+    ensures done { WorkedOn boot.now (AcceptsRun boot.now (P.made port.old) run)
+        (P.made port.old) (P.made port.new) kept.new result }
+    ensures faults { FaultsBy (P.faults port.old) (P.faults port.new) result }
+    ensures never_fails { P.never_fails port.old → P.never_fails port.new }
 {
     let pages = run_pages(&kept.bits, run);
     let Worked { span, calls, end } = work(alloc, &boot.hosts, &mut kept.table, port, pages)?;

@@ -1,5 +1,6 @@
 //! The cut of RAM into blocks, after the page allocator.
 ghost use Rattle.std.specs.Prelude.{◌≡◌, ◌++◌, ◌+◌, ◌^◌, ◌<◌, ◌≤◌, IfOk, OnOk, All};
+ghost use Rattle.guest_base.specs.declared.limits.TheConstants.{PAGE_END};
 ghost use Rattle.std.specs.List.{flat_map};
 ghost use Rattle.guest_base.specs.declared.memory.Block.{Block as BlockValue};
 ghost use Rattle.event_core.specs.Cut.{pages_end, joined, ram_ranges, may_stand, order_at, blocks_of};
@@ -11,12 +12,14 @@ use guest_base::{Block, PageRun, Pages};
 use std::alloc::{AllocError, Global};
 
 /// The blocks into which RAM is cut, rising: of each maximal range of RAM pages, whatever their states, at each place the block of
-/// the greatest order up to 10 that may stand there. The runs rise; it fails only for want of memory.
+/// the greatest order up to 10 that may stand there. The runs rise; it fails only where memory runs out.
 pub(crate) fn cut_blocks(alloc: Global, ram: &Runs) -> Result<Vec<Block>, AllocError>
-    requires low { All (λ run. run_end run ≤ 2 ^ 28) ram.now }
-    ensures blocks { IfOk result (λ blocks. blocks.items ≡ flat_map blocks_of (ram_ranges ram.now)) }
+    requires low { All (λ run. run_end run ≤ PAGE_END) ram.now }
+    ensures blocks { IfOk result (λ blocks.
+        blocks.items ≡ flat_map blocks_of (ram_ranges ram.now)) }
     ensures orders { IfOk result (λ blocks. All (λ (b : BlockValue). b.order ≤ 10) blocks.items) }
-    ensures ends { IfOk result (λ blocks. All (λ (b : BlockValue). b.first + 2 ^ b.order ≤ 2 ^ 28) blocks.items) }
+    ensures ends { IfOk result (λ blocks.
+        All (λ (b : BlockValue). b.first + 2 ^ b.order ≤ PAGE_END) blocks.items) }
 {
     let mut blocks = Vec::new(alloc);
     for range in &ranges(alloc, ram.as_slice())? {
@@ -27,7 +30,7 @@ pub(crate) fn cut_blocks(alloc: Global, ram: &Runs) -> Result<Vec<Block>, AllocE
 
 /// The maximal ranges of pages of these runs, whatever their states.
 fn ranges(alloc: Global, runs: &[PageRun]) -> Result<Vec<Pages>, AllocError>
-    requires { All (λ run. run_end run ≤ 2 ^ 28) runs.now }
+    requires { All (λ run. run_end run ≤ PAGE_END) runs.now }
     ensures { IfOk result (λ ranges. ranges.items ≡ ram_ranges runs.now) }
 {
     match runs {
@@ -38,8 +41,8 @@ fn ranges(alloc: Global, runs: &[PageRun]) -> Result<Vec<Pages>, AllocError>
 
 /// The maximal ranges of pages of a range and the runs behind it.
 fn ranges_from(alloc: Global, first: Pages, others: &[PageRun]) -> Result<Vec<Pages>, AllocError>
-    requires first { pages_end first ≤ 2 ^ 28 }
-    requires others { All (λ run. run_end run ≤ 2 ^ 28) others.now }
+    requires first { pages_end first ≤ PAGE_END }
+    requires others { All (λ run. run_end run ≤ PAGE_END) others.now }
     ensures { IfOk result (λ ranges. ranges.items ≡ joined first (ram_ranges others.now)) }
 {
     let mut ranges = Vec::new(alloc);
@@ -58,7 +61,7 @@ fn ranges_from(alloc: Global, first: Pages, others: &[PageRun]) -> Result<Vec<Pa
 
 /// Adds the blocks of a range at the end.
 fn push_blocks(blocks: &mut Vec<Block>, range: Pages) -> Result<(), AllocError>
-    requires { pages_end range ≤ 2 ^ 28 }
+    requires { pages_end range ≤ PAGE_END }
     ensures { OnOk result (blocks.new.items ≡ blocks.old.items ++ blocks_of range) }
 {
     let mut first = range.first;

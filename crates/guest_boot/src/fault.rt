@@ -10,7 +10,7 @@ use std::alloc::{AllocError, AllocFailed};
 pub enum BootFault {
     /// The acceptance of an early piece or of a block stopped at this page, whose call for 4 KiB the module failed.
     Module(Page),
-    /// Want of memory.
+    /// Out of memory.
     NoMemory,
 }
 

@@ -1,5 +1,6 @@
 //! The stages of boot.
 ghost use Rattle.std.specs.Prelude.{◌≡◌, ℕ, ◌+◌, ◌^◌, ◌<◌, ◌≤◌, Some, None, Err, All, IfOk, OnOk};
+ghost use Rattle.guest_base.specs.declared.limits.TheConstants.{ADDRESS_END, PAGE_END};
 ghost use Rattle.guest_base.specs.Counts.{Rose};
 ghost use Rattle.guest_base.specs.declared.memory.Block.{Block as BlockValue};
 ghost use Rattle.guest_base.specs.declared.memory.Page.{Page as PageValue};
@@ -7,7 +8,7 @@ ghost use Rattle.guest_base.specs.declared.memory.PageRun.{PageRun as PageRunVal
 ghost use Rattle.event_core.specs.Boot.{InTurn, AcceptsPiece, AcceptsRange, AcceptsBlock};
 ghost use Rattle.memory_core.specs.Bitmaps.{bits_in, guarded_by};
 ghost use Rattle.memory_core.specs.Booted.{IsBooted};
-ghost use Rattle.guest_boot.specs.Booting.{StandsAfter, Grew, IsEarly, runs_in};
+ghost use Rattle.guest_boot.specs.Booting.{StandsAfter, WorkedOn, FaultsBy, AcceptsRunPiece, IsEarly, runs_in};
 
 use crate::accept::{Kept, accept_piece, accept_units};
 use crate::fault::BootFault;
@@ -29,13 +30,11 @@ pub(crate) fn accept_early<P: Port>(
     requires booted { IsBooted boot.now }
     requires stands { StandsAfter boot.now (P.made port.old) kept.old }
     requires early { All (λ (piece : PageRunValue). IsEarly boot.now piece.pages) pieces.now }
-    ensures stands { OnOk result (StandsAfter boot.now (P.made port.new) kept.new) }
-    ensures made { OnOk result (Grew (P.made port.old) (P.made port.new)
-        (λ now. InTurn (λ before (piece : PageRunValue). AcceptsPiece boot.now before piece.pages) (P.made port.old) pieces.now now None)) }
-    ensures stopped { (page : PageValue) → result ≡ Err (BootFault.Module page) → Grew (P.made port.old) (P.made port.new)
-        (λ now. InTurn (λ before (piece : PageRunValue). AcceptsPiece boot.now before piece.pages) (P.made port.old) pieces.now now (Some page)) }
-    ensures failed { (page : PageValue) → result ≡ Err (BootFault.Module page) → Rose (P.faults port.old) (P.faults port.new) }
-    ensures faults { P.faults port.old ≤ P.faults port.new }
+    ensures done { WorkedOn boot.now
+        (InTurn (AcceptsRunPiece boot.now) (P.made port.old) pieces.now)
+        (P.made port.old) (P.made port.new) kept.new result }
+    ensures faults { FaultsBy (P.faults port.old) (P.faults port.new) result }
+    ensures never_fails { P.never_fails port.old → P.never_fails port.new }
 {
     for piece in pieces {
         accept_piece(alloc, boot, kept, port, piece.pages)?;
@@ -51,8 +50,9 @@ fn unaccepted_runs(
     len: u64,
 ) -> Result<Vec<Units>, AllocError>
     requires some { 1 ≤ len }
-    requires end { start + len ≤ 2 ^ 40 }
-    ensures { IfOk result (λ runs. runs.items ≡ runs_in (bits_in bits.now) (guarded_by bits.now start len)) }
+    requires end { start + len ≤ ADDRESS_END }
+    ensures { IfOk result (λ runs.
+        runs.items ≡ runs_in (bits_in bits.now) (guarded_by bits.now start len)) }
 {
     match bits {
         Some(bits) => match bits.claim_units(start, len) {
@@ -88,15 +88,13 @@ fn accept_range<P: Port>(
     len: u64,
 ) -> Result<(), BootFault>
     requires some { 1 ≤ len }
-    requires end { start + len ≤ 2 ^ 40 }
+    requires end { start + len ≤ ADDRESS_END }
     requires booted { IsBooted boot.now }
     requires stands { StandsAfter boot.now (P.made port.old) kept.old }
-    ensures stands { OnOk result (StandsAfter boot.now (P.made port.new) kept.new) }
-    ensures made { OnOk result (Grew (P.made port.old) (P.made port.new) (λ now. AcceptsRange boot.now (P.made port.old) start len now None)) }
-    ensures stopped { (page : PageValue) → result ≡ Err (BootFault.Module page)
-        → Grew (P.made port.old) (P.made port.new) (λ now. AcceptsRange boot.now (P.made port.old) start len now (Some page)) }
-    ensures failed { (page : PageValue) → result ≡ Err (BootFault.Module page) → Rose (P.faults port.old) (P.faults port.new) }
-    ensures faults { P.faults port.old ≤ P.faults port.new }
+    ensures done { WorkedOn boot.now (AcceptsRange boot.now (P.made port.old) start len)
+        (P.made port.old) (P.made port.new) kept.new result }
+    ensures faults { FaultsBy (P.faults port.old) (P.faults port.new) result }
+    ensures never_fails { P.never_fails port.old → P.never_fails port.new }
 {
     let runs = unaccepted_runs(alloc, &kept.bits, start, len)?;
     for run in runs.as_slice() {
@@ -114,15 +112,13 @@ fn accept_block<P: Port>(
     block: Block,
 ) -> Result<(), BootFault>
     requires order { block.order ≤ 10 }
-    requires low { block.first + 2 ^ block.order ≤ 2 ^ 28 }
+    requires low { block.first + 2 ^ block.order ≤ PAGE_END }
     requires booted { IsBooted boot.now }
     requires stands { StandsAfter boot.now (P.made port.old) kept.old }
-    ensures stands { OnOk result (StandsAfter boot.now (P.made port.new) kept.new) }
-    ensures made { OnOk result (Grew (P.made port.old) (P.made port.new) (λ now. AcceptsBlock boot.now (P.made port.old) block now None)) }
-    ensures stopped { (page : PageValue) → result ≡ Err (BootFault.Module page)
-        → Grew (P.made port.old) (P.made port.new) (λ now. AcceptsBlock boot.now (P.made port.old) block now (Some page)) }
-    ensures failed { (page : PageValue) → result ≡ Err (BootFault.Module page) → Rose (P.faults port.old) (P.faults port.new) }
-    ensures faults { P.faults port.old ≤ P.faults port.new }
+    ensures done { WorkedOn boot.now (AcceptsBlock boot.now (P.made port.old) block)
+        (P.made port.old) (P.made port.new) kept.new result }
+    ensures faults { FaultsBy (P.faults port.old) (P.faults port.new) result }
+    ensures never_fails { P.never_fails port.old → P.never_fails port.new }
 {
     if block.order == MAX_ORDER {
         return Ok(());
@@ -138,7 +134,7 @@ fn accept_block<P: Port>(
     )
 }
 
-/// Accepts the blocks below 4 MiB, one after another.
+/// Accepts the blocks smaller than 4 MiB, one after another.
 pub(crate) fn accept_blocks<P: Port>(
     alloc: Global,
     boot: &Boot,
@@ -147,15 +143,13 @@ pub(crate) fn accept_blocks<P: Port>(
     blocks: &[Block],
 ) -> Result<(), BootFault>
     requires orders { All (λ (b : BlockValue). b.order ≤ 10) blocks.now }
-    requires low { All (λ (b : BlockValue). b.first + 2 ^ b.order ≤ 2 ^ 28) blocks.now }
+    requires low { All (λ (b : BlockValue). b.first + 2 ^ b.order ≤ PAGE_END) blocks.now }
     requires booted { IsBooted boot.now }
     requires stands { StandsAfter boot.now (P.made port.old) kept.old }
-    ensures stands { OnOk result (StandsAfter boot.now (P.made port.new) kept.new) }
-    ensures made { OnOk result (Grew (P.made port.old) (P.made port.new) (λ now. InTurn (AcceptsBlock boot.now) (P.made port.old) blocks.now now None)) }
-    ensures stopped { (page : PageValue) → result ≡ Err (BootFault.Module page)
-        → Grew (P.made port.old) (P.made port.new) (λ now. InTurn (AcceptsBlock boot.now) (P.made port.old) blocks.now now (Some page)) }
-    ensures failed { (page : PageValue) → result ≡ Err (BootFault.Module page) → Rose (P.faults port.old) (P.faults port.new) }
-    ensures faults { P.faults port.old ≤ P.faults port.new }
+    ensures done { WorkedOn boot.now (InTurn (AcceptsBlock boot.now) (P.made port.old) blocks.now)
+        (P.made port.old) (P.made port.new) kept.new result }
+    ensures faults { FaultsBy (P.faults port.old) (P.faults port.new) result }
+    ensures never_fails { P.never_fails port.old → P.never_fails port.new }
 {
     for block in blocks {
         accept_block(alloc, boot, kept, port, *block)?;

@@ -1,31 +1,22 @@
-ghost use Rattle.std.specs.Prelude.{IfOk};
+ghost use Rattle.std.specs.Prelude.{◌<◌, ◌≤◌, ◌^◌, IfOk};
 ghost use Rattle.event_core.specs.Map.{MapRules};
 
 use crate::{BootFault, boot};
-use efi_map::{GuestMap, read_map};
 use event_core::{CallKind, ModuleCall, PortAnswer};
-use guest_base::{Level, Page, Unit, Units};
+use guest_base::{Level, Page, Pages, Unit, Units};
+use guest_map::GuestMap;
 use page_module::MemPort;
-use std::alloc::Global;
+use std::alloc::{AllocError, Global};
 use std::test::Fail;
 use unaccepted_bitmap::read_table;
 
-/// The map with these descriptors, each of them a type, a start in bytes and a number of pages.
-fn map_of(alloc: Global, descriptors: &[(u32, u64, u64)]) -> Result<GuestMap, Fail>
+/// A map of unaccepted memory alone: this many pages from 4 MiB on.
+fn map_of(alloc: Global, count: u64) -> Result<GuestMap, AllocError>
+    requires some { 0 < count }
+    requires few { count ≤ 2 ^ 24 }
     ensures { IfOk result (λ map. MapRules map.descriptors map.hosts) }
 {
-    let mut bytes = Vec::from_slice(alloc, b"GMAP")?;
-    bytes.extend_from_slice(&[40, 0, 0, 0, 1, 0, 0, 0])?;
-    bytes.extend_from_slice(&(descriptors.len() as u64).to_le_bytes()[..4])?;
-    for (kind, start, pages) in descriptors {
-        bytes.extend_from_slice(&u64::from(*kind).to_le_bytes())?;
-        bytes.extend_from_slice(&start.to_le_bytes())?;
-        bytes.extend_from_slice(&[0; 8])?;
-        bytes.extend_from_slice(&pages.to_le_bytes())?;
-        bytes.extend_from_slice(&[0; 8])?;
-    }
-    bytes.extend_from_slice(&[0; 4])?;
-    Ok(read_map(alloc, bytes.as_slice())?)
+    GuestMap::unaccepted(alloc, Pages { first: 1024, count })
 }
 
 fn accepted(first: u64, level: Level) -> ModuleCall {
@@ -41,7 +32,7 @@ fn accepted(first: u64, level: Level) -> ModuleCall {
 #[test]
 fn whole_blocks_wait(rt: HostRuntime) -> Result<(), Fail> {
     let alloc = rt.alloc();
-    let map = map_of(alloc, &[(7, 0, 1024), (15, 0x40_0000, 2048)])?;
+    let map = map_of(alloc, 2048)?;
     let mut port = MemPort::new(alloc, Vec::new(alloc));
     let world = boot(alloc, &map, None, 4, 2, &mut port)
         .ok()
@@ -61,7 +52,7 @@ const PAGE_UNITS: [u8; 24] = [
 #[test]
 fn a_table_says_what_is_unaccepted(rt: HostRuntime) -> Result<(), Fail> {
     let alloc = rt.alloc();
-    let map = map_of(alloc, &[(7, 0, 1024), (15, 0x40_0000, 2048)])?;
+    let map = map_of(alloc, 2048)?;
     let mut bytes = Vec::from_slice(alloc, &PAGE_UNITS)?;
     bytes.extend_from_slice(&[0; 64])?;
     bytes.extend_from_slice(&[0xff; 192])?;
@@ -84,7 +75,7 @@ fn a_table_says_what_is_unaccepted(rt: HostRuntime) -> Result<(), Fail> {
 #[test]
 fn short_descriptors_are_accepted(rt: HostRuntime) -> Result<(), Fail> {
     let alloc = rt.alloc();
-    let map = map_of(alloc, &[(7, 0, 1024), (15, 0x40_0000, 1023)])?;
+    let map = map_of(alloc, 1023)?;
     let mut port = MemPort::new(alloc, Vec::new(alloc));
     let world = boot(alloc, &map, None, 1, 1, &mut port)
         .ok()
@@ -101,7 +92,7 @@ fn short_descriptors_are_accepted(rt: HostRuntime) -> Result<(), Fail> {
 #[test]
 fn small_blocks_are_accepted(rt: HostRuntime) -> Result<(), Fail> {
     let alloc = rt.alloc();
-    let map = map_of(alloc, &[(15, 0x40_0000, 2560)])?;
+    let map = map_of(alloc, 2560)?;
     let mut port = MemPort::new(alloc, Vec::new(alloc));
     let world = boot(alloc, &map, None, 1, 1, &mut port)
         .ok()
@@ -116,7 +107,7 @@ fn small_blocks_are_accepted(rt: HostRuntime) -> Result<(), Fail> {
 #[test]
 fn stops_where_the_module_fails(rt: HostRuntime) -> Result<(), Fail> {
     let alloc = rt.alloc();
-    let map = map_of(alloc, &[(15, 0x40_0000, 1023)])?;
+    let map = map_of(alloc, 1023)?;
     let mut port = MemPort::new(alloc, vec![in alloc; 3]?);
     let fault = boot(alloc, &map, None, 1, 1, &mut port)
         .err()

@@ -7,22 +7,21 @@ ghost use Rattle.guest_base.specs.declared.memory.Pages.{Pages as PagesValue};
 ghost use Rattle.guest_base.specs.declared.memory.PageRun.{PageRun as PageRunValue};
 ghost use Rattle.event_core.specs.Map.{MapRules};
 ghost use Rattle.event_core.specs.Given.{FitsGiven};
-ghost use Rattle.event_core.specs.Boot.{BootRight, InTurn, StagePart, stages_of};
+ghost use Rattle.event_core.specs.Boot.{BootRight, BootStopped, BootFront, InTurn, StagePart};
 ghost use Rattle.event_core.specs.Cut.{cut};
 ghost use Rattle.memory_core.specs.Booted.{IsBooted};
 ghost use Rattle.unaccepted_bitmap.specs.StubMap.{pending_run};
-ghost use Rattle.guest_boot.specs.Booting.{StandsAfter, IsEarly};
+ghost use Rattle.guest_boot.specs.Booting.{StandsAfter, WorkedOn, FaultsBy, stages_by, IsEarly};
 ghost use Rattle.guest_boot.specs.Starting.{IsFirstBoot, BeginsWith};
 ghost use Rattle.guest_boot.specs.Worlds.{WorldStands};
-ghost use Rattle.guest_boot.specs.Stopped.{BootStopped};
 
 use crate::accept::Kept;
 use crate::cut::cut_blocks;
 use crate::fault::BootFault;
 use crate::stages::{accept_blocks, accept_early};
-use efi_map::GuestMap;
 use event_core::{Boot, Hosts, Runs};
 use guest_base::{Block, Bytes, Items, PageRun};
+use guest_map::GuestMap;
 use memory_core::Memory;
 use page_module::{PageTable, Port};
 use std::alloc::{AllocError, Global};
@@ -43,8 +42,7 @@ pub struct World {
 /// there are none with a table, and then of the blocks smaller than 4 MiB whose guarded units aren't all accepted, rising.
 ///
 /// `Module` comes only where one of these acceptances stopped, so only where the port's count of faults rose; the port's calls are
-/// then boot's up to there.
-/// Whatever the answer, the calls that were made stay made; after want of memory they may be some of boot's.
+/// then boot's up to there. Whatever the answer, the port's calls are a front of boot's, and a port that never fails stays one.
 pub fn boot<P: Port>(
     alloc: Global,
     map: &GuestMap,
@@ -57,12 +55,18 @@ pub fn boot<P: Port>(
     requires fits { FitsGiven map.now.descriptors table }
     requires few { cpus ≤ 64 }
     requires unmade { P.made port.old ≡ [] }
-    ensures right { IfOk result (λ w. BootRight map.now.descriptors map.now.hosts table 0 areas cpus w.boot) }
+    ensures right { IfOk result (λ w.
+        BootRight map.now.descriptors map.now.hosts table 0 areas cpus w.boot) }
     ensures stands { IfOk result (λ w. WorldStands w) }
     ensures made { IfOk result (λ w. P.made port.new ≡ w.boot.calls) }
-    ensures stopped { (page : PageValue) → result ≡ Err (BootFault.Module page) → BootStopped map.now.descriptors map.now.hosts table 0 areas cpus (P.made port.new) page }
-    ensures failed { (page : PageValue) → result ≡ Err (BootFault.Module page) → Rose (P.faults port.old) (P.faults port.new) }
+    ensures stopped { (page : PageValue) → result ≡ Err (BootFault.Module page)
+        → BootStopped map.now.descriptors map.now.hosts table 0 areas cpus (P.made port.new) page }
+    ensures front { BootFront map.now.descriptors map.now.hosts table 0 areas cpus
+        (P.made port.new) }
+    ensures failed { (page : PageValue) → result ≡ Err (BootFault.Module page)
+        → Rose (P.faults port.old) (P.faults port.new) }
     ensures faults { P.faults port.old ≤ P.faults port.new }
+    ensures never_fails { P.never_fails port.old → P.never_fails port.new }
 {
     let Given { ram, bits, pieces } = first_of(alloc, map, table)?;
     let blocks = cut_blocks(alloc, &ram)?;
@@ -98,7 +102,8 @@ struct Given {
 /// What boot begins with: by the table where one is given, and else by the map alone, as the boot stub leaves it.
 fn first_of(alloc: Global, map: &GuestMap, table: Option<Bitmap>) -> Result<Given, AllocError>
     requires { MapRules map.now.descriptors map.now.hosts }
-    ensures { IfOk result (λ g. BeginsWith map.now.descriptors table g.ram g.bits g.pieces) }
+    ensures { IfOk result (λ g.
+        BeginsWith map.now.descriptors table g.ram g.bits g.pieces) }
 {
     match table {
         Some(table) => Ok(Given {
@@ -143,7 +148,7 @@ fn first_boot(
     })
 }
 
-/// Accepts the early pieces, and then the blocks below 4 MiB.
+/// Accepts the early pieces, and then the blocks smaller than 4 MiB.
 fn accept_stages<P: Port>(
     alloc: Global,
     boot: &Boot,
@@ -152,20 +157,17 @@ fn accept_stages<P: Port>(
     pieces: &[PageRun],
     blocks: &[Block],
 ) -> Result<(), BootFault>
-    requires unmade { P.made port.old ≡ [] }
     requires booted { IsBooted boot.now }
-    requires stands { StandsAfter boot.now [] kept.old }
+    requires stands { StandsAfter boot.now (P.made port.old) kept.old }
     requires early { All (λ (piece : PageRunValue). IsEarly boot.now piece.pages) pieces.now }
-    requires no_pool { boot.now.pool ≡ None }
     requires blocks { blocks.now ≡ cut boot.now }
     requires orders { All (λ (b : BlockValue). b.order ≤ 10) blocks.now }
     requires ends { All (λ (b : BlockValue). b.first + 2 ^ b.order ≤ 2 ^ 28) blocks.now }
-    ensures stands { OnOk result (StandsAfter boot.now (P.made port.new) kept.new) }
-    ensures made { OnOk result ((early : List PagesValue) → pieces.now ≡ map pending_run early → InTurn (StagePart boot.now) [] (stages_of boot.now early) (P.made port.new) None) }
-    ensures stopped { (page : PageValue) → result ≡ Err (BootFault.Module page)
-        → (early : List PagesValue) → pieces.now ≡ map pending_run early → InTurn (StagePart boot.now) [] (stages_of boot.now early) (P.made port.new) (Some page) }
-    ensures failed { (page : PageValue) → result ≡ Err (BootFault.Module page) → Rose (P.faults port.old) (P.faults port.new) }
-    ensures faults { P.faults port.old ≤ P.faults port.new }
+    ensures done { WorkedOn boot.now
+        (InTurn (StagePart boot.now) (P.made port.old) (stages_by boot.now pieces.now))
+        (P.made port.old) (P.made port.new) kept.new result }
+    ensures faults { FaultsBy (P.faults port.old) (P.faults port.new) result }
+    ensures never_fails { P.never_fails port.old → P.never_fails port.new }
 {
     accept_early(alloc, boot, kept, port, pieces)?;
     accept_blocks(alloc, boot, kept, port, blocks)

@@ -1,4 +1,4 @@
-pub mod Failing
+pub mod Faults
 pub mod MemFiles
 pub mod MemSink
 pub mod Reading

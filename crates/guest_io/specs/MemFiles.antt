@@ -7,9 +7,9 @@ use Rattle.guest_io.specs.declared.mem_files.MemFiles.{MemFiles}
 abbrev pub content_in : MemFiles → List ℕ → List ℕ
 content_in files name = content_of files.files.items name
 
--- what each name holds, which is always told
-abbrev pub told : MemFiles → List ℕ → Option (List ℕ)
-told files name = Some (content_in files name)
+-- what each name holds, which is always known
+abbrev pub known : MemFiles → List ℕ → Option (List ℕ)
+known files name = Some (content_in files name)
 
 -- the names asked for
 abbrev pub names_asked : MemFiles → List (List ℕ)

@@ -2,7 +2,7 @@
 use Rattle.std.specs.Prelude.{◌≡◌, ℕ, List, [], Option, Some}
 use Rattle.guest_io.specs.declared.mem_sink.MemSink.{MemSink}
 
--- the bytes written, which are always told
+-- the bytes written, which are always known
 abbrev pub written_in : MemSink → Option (List ℕ)
 written_in sink = Some sink.written.items
 

@@ -1,4 +1,4 @@
-ghost use Rattle.std.specs.Prelude.{◌≡◌, ℕ, List, Option, Some, None, ◌<◌, ◌≤◌, length, IfOk, IsErrOf, ◌⊎◌};
+ghost use Rattle.std.specs.Prelude.{◌≡◌, ℕ, ◌+◌, List, Option, Some, None, ◌<◌, ◌≤◌, length, IfOk, IsErrOf, ◌⊎◌};
 ghost use Rattle.guest_base.specs.Counts.{Rose, RoseByMoreThan};
 ghost use Rattle.guest_io.specs.Reading.{AsksFor};
 ghost use Rattle.guest_io.specs.declared.files.ReadFault.TheVariants.{NoMemory};
@@ -13,7 +13,7 @@ pub enum ReadFault {
     Failed,
     /// The file has more bytes than were asked for.
     TooLong,
-    /// Want of memory.
+    /// Out of memory.
     NoMemory,
 }
 
@@ -37,7 +37,7 @@ impl<T: Drop> From<AllocFailed<T>> for ReadFault {
 ///
 /// A count that stands at its last value, 2^64 - 1, counts as one that rose.
 pub trait Files {
-    /// The bytes of the file of this name, where they are told.
+    /// The bytes of the file of this name, where they are known.
     ghost holds: { Self → List ℕ → Option (List ℕ) };
 
     /// The names asked for, in order.
@@ -52,21 +52,24 @@ pub trait Files {
     /// No call ever fails.
     ghost never_fails: { Self → Type 0 };
 
-    /// All bytes of the file `name`, which has at most `max`.
+    /// All bytes of the file `name`, which has at most `max`. At most `max + 1` bytes are read.
     ///
     /// `Failed` comes only where the count of faults rises. `TooLong` comes only where the file has
-    /// more than `max` bytes and, without a fault, wherever it has; where its bytes aren't told it
-    /// comes only where more than `max` bytes were read. `NoMemory` is want of memory.
+    /// more than `max` bytes and, without a fault, wherever it has; where its bytes aren't known it
+    /// comes only where more than `max` bytes were read. `NoMemory` is out of memory.
     fn read_all(&mut self, alloc: Global, name: &str, max: u64) -> Result<Bytes, ReadFault>
-        ensures whole { IfOk result (λ bytes. (content : List ℕ) → holds self.old name.now ≡ Some content → bytes ≡ content) }
+        ensures whole { IfOk result (λ bytes. (content : List ℕ)
+            → holds self.old name.now ≡ Some content → bytes ≡ content) }
         ensures within { IfOk result (λ bytes. length bytes ≤ max) }
 
-        ensures failed { IsErrOf result ReadFault.Failed → Rose (faults self.old) (faults self.new) }
-        ensures too_long { IsErrOf result ReadFault.TooLong → (content : List ℕ) → holds self.old name.now ≡ Some content → max < length content }
+        ensures failed { IsErrOf result ReadFault.Failed
+            → Rose (faults self.old) (faults self.new) }
+        ensures too_long { IsErrOf result ReadFault.TooLong → (content : List ℕ)
+            → holds self.old name.now ≡ Some content → max < length content }
         ensures too_long_unseen { IsErrOf result ReadFault.TooLong → holds self.old name.now ≡ None
             → RoseByMoreThan max (bytes_read self.old) (bytes_read self.new) }
-        ensures long_refused { (content : List ℕ) → holds self.old name.now ≡ Some content → max < length content
-            → ¬ Rose (faults self.old) (faults self.new)
+        ensures long_refused { (content : List ℕ) → holds self.old name.now ≡ Some content
+            → max < length content → ¬ Rose (faults self.old) (faults self.new)
             → IsErrOf result ReadFault.TooLong ⊎ IsErrOf result ReadFault.NoMemory }
 
         // What stays, whatever the answer.
@@ -74,6 +77,7 @@ pub trait Files {
         ensures asks { AsksFor name.now result (asked self.old) (asked self.new) }
         ensures faults_kept { faults self.old ≤ faults self.new }
         ensures bytes_kept { bytes_read self.old ≤ bytes_read self.new }
+        ensures bytes_within { bytes_read self.new ≤ bytes_read self.old + (max + 1) }
         ensures never_fails_kept { never_fails self.old → never_fails self.new };
 
     /// What never fails has no fault.

@@ -18,13 +18,13 @@ pub struct MemFiles {
 }
 
 impl MemFiles {
-    ghost use Rattle.guest_io.specs.MemFiles.{content_in, told, names_asked, faults_of, bytes_of, failing_of, calls_of, NeverFails};
+    ghost use Rattle.guest_io.specs.MemFiles.{content_in, known, names_asked, faults_of, bytes_of, failing_of, calls_of, NeverFails};
 
     /// The files by their names. A name that isn't there is an empty file; of several entries with
     /// one name the first counts. The calls of `read_all` whose numbers, counted from 1, stand in
     /// `failing` answer `Failed`, however long the file is.
     pub fn new(alloc: Global, files: Vec<(String, Vec<u8>)>, failing: Vec<u64>) -> MemFiles
-        ensures holds { (name : List ℕ) → told result name ≡ Some (content_of files.items name) }
+        ensures holds { (name : List ℕ) → known result name ≡ Some (content_of files.items name) }
         ensures asked { names_asked result ≡ [] }
         ensures faults { faults_of result ≡ 0 }
         ensures bytes_read { bytes_of result ≡ 0 }
@@ -43,7 +43,8 @@ impl MemFiles {
 
 /// The first entry of this name.
 fn first_named<'a>(files: &'a [(String, Vec<u8>)], name: &str) -> Option<&'a (String, Vec<u8>)>
-    ensures { option_copied result ≡ find (λ file. bytes_eq (string_bytes file.0) name.now) files.now }
+    ensures { option_copied result
+        ≡ find (λ file. bytes_eq (string_bytes file.0) name.now) files.now }
 {
     files.iter().find(|file| file.0.as_str() == name)
 }
@@ -61,11 +62,12 @@ fn find_content<'a>(files: &'a [(String, Vec<u8>)], name: &str) -> &'a [u8]
 impl Files for MemFiles {
     ghost use Rattle.std.specs.Prelude.{◌≡◌, ◌+◌, Some, ◌<◌, ◌≤◌, length, true, if◌then◌else◌, IfOk, IsErrOf, ◌⊎◌, is_ok};
     ghost use Rattle.guest_base.specs.Counts.{raised_by};
-    ghost use Rattle.guest_io.specs.Failing.{fails_at};
+    ghost use Rattle.guest_base.specs.Failing.{fails_at};
+    ghost use Rattle.guest_io.specs.Faults.{faults_after};
     ghost use Rattle.guest_io.specs.Reading.{AsksFor};
-    ghost use Rattle.guest_io.specs.MemFiles.{content_in, told, names_asked, faults_of, bytes_of, failing_of, calls_of, NeverFails};
+    ghost use Rattle.guest_io.specs.MemFiles.{content_in, known, names_asked, faults_of, bytes_of, failing_of, calls_of, NeverFails};
 
-    ghost holds = { told };
+    ghost holds = { known };
 
     ghost asked = { names_asked };
 
@@ -79,24 +81,32 @@ impl Files for MemFiles {
 
     /// The bytes of the first entry of this name. `Failed` comes exactly where the call is one of
     /// those that are to fail, and else `TooLong` exactly where the file has more than `max` bytes,
-    /// want of memory aside.
+    /// unless memory runs out.
     fn read_all(&mut self, alloc: Global, name: &str, max: u64) -> Result<Bytes, ReadFault>
-        ensures whole { IfOk result (λ bytes. told self.old name.now ≡ Some bytes) }
+        ensures whole { IfOk result (λ bytes. known self.old name.now ≡ Some bytes) }
         ensures within { IfOk result (λ bytes. length bytes ≤ max) }
 
-        ensures failed { IsErrOf result ReadFault.Failed → fails_at (failing_of self.old) (calls_of self.old + 1) ≡ true }
+        ensures failed { IsErrOf result ReadFault.Failed
+            → fails_at (failing_of self.old) (calls_of self.old + 1) ≡ true }
         ensures fails { fails_at (failing_of self.old) (calls_of self.old + 1) ≡ true
             → IsErrOf result ReadFault.Failed ⊎ IsErrOf result ReadFault.NoMemory }
-        ensures too_long { IsErrOf result ReadFault.TooLong → max < length (content_in self.old name.now) }
+        ensures too_long { IsErrOf result ReadFault.TooLong
+            → max < length (content_in self.old name.now) }
 
-        ensures same_files { told self.new ≡ told self.old }
+        ensures same_files { known self.new ≡ known self.old }
         ensures same_failing { failing_of self.new ≡ failing_of self.old }
         ensures asks { AsksFor name.now result (names_asked self.old) (names_asked self.new) }
         ensures calls { calls_of self.new ≡ raised_by 1 (calls_of self.old) }
-        ensures faults { faults_of self.new ≡ (if fails_at (failing_of self.old) (calls_of self.old + 1) then raised_by 1 (faults_of self.old) else faults_of self.old) }
+        ensures faults { faults_of self.new
+            ≡ faults_after (fails_at (failing_of self.old) (calls_of self.old + 1))
+            (faults_of self.old) }
         ensures faults_kept { faults_of self.old ≤ faults_of self.new }
-        ensures bytes_read { bytes_of self.new ≡ (if is_ok result then raised_by (length (content_in self.old name.now)) (bytes_of self.old) else bytes_of self.old) }
+        ensures bytes_read { bytes_of self.new
+            ≡ (if is_ok result
+            then raised_by (length (content_in self.old name.now)) (bytes_of self.old)
+            else bytes_of self.old) }
         ensures bytes_kept { bytes_of self.old ≤ bytes_of self.new }
+        ensures bytes_within { bytes_of self.new ≤ bytes_of self.old + (max + 1) }
     {
         let fails = self.calls.count();
         self.asked.push(String::from_str(alloc, name)?)?;
@@ -119,7 +129,7 @@ mod tests {
     use std::test::Fail;
 
     #[test]
-    fn reads_the_first_entry_and_fails_as_told(rt: HostRuntime) -> Result<(), Fail> {
+    fn reads_the_first_entry_and_fails_where_named(rt: HostRuntime) -> Result<(), Fail> {
         let alloc = rt.alloc();
         let mut entries = Vec::new(alloc);
         entries.push((String::from_str(alloc, "map")?, b"one".to_vec(alloc)?))?;

@@ -38,10 +38,11 @@ impl MemSink {
 }
 
 impl Sink for MemSink {
-    ghost use Rattle.std.specs.Prelude.{◌≡◌, ◌+◌, ◌≤◌, ◌↔◌, true, if◌then◌else◌, OnOk, OnErr, IsErrOf};
+    ghost use Rattle.std.specs.Prelude.{◌≡◌, ◌+◌, ◌≤◌, ◌↔◌, true, OnOk, OnErr, IsErrOf};
     ghost use Rattle.guest_io.specs.Writing.{appended};
     ghost use Rattle.guest_base.specs.Counts.{raised_by};
-    ghost use Rattle.guest_io.specs.Failing.{fails_at};
+    ghost use Rattle.guest_base.specs.Failing.{fails_at};
+    ghost use Rattle.guest_io.specs.Faults.{faults_after};
     ghost use Rattle.guest_io.specs.MemSink.{written_in, faults_of, failing_of, calls_of, NeverFails};
 
     ghost written = { written_in };
@@ -57,11 +58,14 @@ impl Sink for MemSink {
     fn put(&mut self, alloc: Global, bytes: &[u8]) -> Result<(), PutFault>
         ensures ok { OnOk result (written_in self.new ≡ appended (written_in self.old) bytes.now) }
         ensures err { OnErr result (written_in self.new ≡ written_in self.old) }
-        ensures fails { IsErrOf result PutFault.Failed ↔ (fails_at (failing_of self.old) (calls_of self.old + 1) ≡ true) }
+        ensures fails { IsErrOf result PutFault.Failed
+            ↔ (fails_at (failing_of self.old) (calls_of self.old + 1) ≡ true) }
 
         ensures same_failing { failing_of self.new ≡ failing_of self.old }
         ensures calls { calls_of self.new ≡ raised_by 1 (calls_of self.old) }
-        ensures faults { faults_of self.new ≡ (if fails_at (failing_of self.old) (calls_of self.old + 1) then raised_by 1 (faults_of self.old) else faults_of self.old) }
+        ensures faults { faults_of self.new
+            ≡ faults_after (fails_at (failing_of self.old) (calls_of self.old + 1))
+            (faults_of self.old) }
         ensures faults_kept { faults_of self.old ≤ faults_of self.new }
     {
         if self.calls.count() {

@@ -1,6 +1,7 @@
-ghost use Rattle.std.specs.Prelude.{◌≡◌, ◌+◌, ◌≤◌, if◌then◌else◌};
+ghost use Rattle.std.specs.Prelude.{◌≡◌, ◌+◌, ◌≤◌};
 ghost use Rattle.guest_base.specs.Counts.{raised_by};
-ghost use Rattle.guest_io.specs.Failing.{fails_at};
+ghost use Rattle.guest_base.specs.Failing.{fails_at};
+ghost use Rattle.guest_io.specs.Faults.{faults_after};
 
 /// Which calls of an object in memory fail, with the calls made and the faults so far.
 #[derive(Debug, Drop)]
@@ -29,7 +30,7 @@ impl NumberedCalls {
         ensures fails { result ≡ fails_at self.old.failing.items (self.old.made + 1) }
         ensures failing { self.new.failing.items ≡ self.old.failing.items }
         ensures made { self.new.made ≡ raised_by 1 self.old.made }
-        ensures faults { self.new.faults ≡ (if result then raised_by 1 self.old.faults else self.old.faults) }
+        ensures faults { self.new.faults ≡ faults_after result self.old.faults }
         ensures faults_kept { self.old.faults ≤ self.new.faults }
     {
         let fails = is_named(self.failing.as_slice(), self.made);

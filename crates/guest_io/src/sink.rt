@@ -10,7 +10,7 @@ use std::alloc::{AllocError, AllocFailed, Global};
 pub enum PutFault {
     /// The outside failed: the count of faults rose, and a prefix of the bytes was written.
     Failed,
-    /// Want of memory: nothing was written.
+    /// Out of memory: nothing was written.
     NoMemory,
 }
 
@@ -34,7 +34,7 @@ impl<T: Drop> From<AllocFailed<T>> for PutFault {
 ///
 /// A count that stands at its last value, 2^64 - 1, counts as one that rose.
 pub trait Sink {
-    /// All bytes written, where they are told.
+    /// All bytes written, where they are known.
     ghost written: { Self → Option (List ℕ) };
 
     /// How often the outside failed.
@@ -46,15 +46,16 @@ pub trait Sink {
     /// Writes these bytes after those before.
     ///
     /// `Failed` comes only where the count of faults rises, and then a prefix of the bytes is
-    /// written. `NoMemory` is want of memory, and nothing is written.
+    /// written. `NoMemory` is out of memory, and nothing is written.
     fn put(&mut self, alloc: Global, bytes: &[u8]) -> Result<(), PutFault>
         ensures ok { OnOk result (written self.new ≡ appended (written self.old) bytes.now) }
         ensures failed { IsErrOf result PutFault.Failed → Rose (faults self.old) (faults self.new) }
-        ensures failed_within { IsErrOf result PutFault.Failed → AppendsPrefix (written self.old) bytes.now (written self.new) }
+        ensures failed_within { IsErrOf result PutFault.Failed
+            → AppendsPrefix (written self.old) bytes.now (written self.new) }
         ensures no_memory { IsErrOf result PutFault.NoMemory → written self.new ≡ written self.old }
 
         // What stays, whatever the answer.
-        ensures told { is_some (written self.new) ≡ is_some (written self.old) }
+        ensures known { is_some (written self.new) ≡ is_some (written self.old) }
         ensures faults_kept { faults self.old ≤ faults self.new }
         ensures never_fails_kept { never_fails self.old → never_fails self.new };
 

@@ -1,5 +1,5 @@
 use Rattle.std.proofs.Common.{◌≡◌, ◌≢◌, ℕ, ◌≤◌, Bool, true, false, ◌||◌, None, Option, List, [], ◌∷◌, ◌++◌, refl, sym, ◌∙◌, ap, inl, inr, arith}
-use Rattle.std.specs.Prelude.{Result, Ok, Err, OnOk}
+use Rattle.std.specs.Prelude.{Result, Ok, Err, OnOk, OnErr}
 use Rattle.std.proofs.lemmas.Bool.{cases_Bool, cases_lt}
 use Rattle.std.proofs.lemmas.List.Folds.{list_any-append}
 use Rattle.guest_base.specs.Counts.{Rose}
@@ -53,7 +53,7 @@ one_told entries entry before mid after le on told last = λ some. elim (cases_B
 pub stopped_rose : (memory new : MemoryValue) (turn : Turn) (claim : Claimed) (calls : List ModuleCall) (reported : Reported) (reply : Option Reply) (end : RunEnd) (mid after : ℕ) → reply ≡ reply_in reported → ReportedBy memory new turn claim calls reported → stop_of calls ≡ stopped_at end → (stopped_at end ≢ None → Rose mid after) → is_module reply ≡ true → Rose mid after
 stopped_rose memory new turn claim calls (Next span) reply end mid after is by stop rose h = let no : false ≡ true = sym (ap is_module is) ∙ h in cc
 stopped_rose memory new turn claim calls (Closed count) reply end mid after is by stop rose h = let no : false ≡ true = sym (ap is_module is) ∙ h in cc
-stopped_rose memory new turn claim calls Stopped reply end mid after is by stop rose h = rose (λ none. by (stop ∙ none))
+stopped_rose memory new turn claim calls Stopped reply end mid after is by stop rose h = rose (λ none. by.0 (stop ∙ none))
 
 -- the same replies, told of earlier
 pub same_told : (old new : List Entry) (before after : ℕ) → some_module new ≡ some_module old → FaultsTold before old after → FaultsTold before new after
@@ -63,3 +63,8 @@ same_told old new before after same told = λ some. told (sym same ∙ some)
 pub on_ok : {T E A B : Type 0} (result : Result T E) → (A → B) → OnOk result A → OnOk result B
 on_ok (Ok x) f h = f h
 on_ok (Err e) f h = h
+
+-- what holds anyway holds where memory ran out
+pub on_err : {T E A : Type 0} (result : Result T E) → A → OnErr result A
+on_err (Ok x) a = tt
+on_err (Err e) a = a

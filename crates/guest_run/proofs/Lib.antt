@@ -6,9 +6,6 @@ pub mod SpanLemmas
 pub mod ReadyLemmas
 pub mod TurnsLemmas
 pub mod RunLemmas
-pub mod PrintLemmas
-pub mod TextLemmas
 pub mod WithinLemmas
-pub mod ScriptLemmas
-pub mod InputLemmas
+pub mod BootedLemmas
 pub mod EndLemmas

@@ -1,4 +1,4 @@
-use Rattle.std.proofs.Common.{◌≡◌, ℕ, ◌+◌, ◌<◌, ◌≤◌, Bool, true, false, Option, None, Some, List, [], ◌∷◌, ◌++◌, refl, sym, ◌∙◌, ap, subst, inl, inr, arith, cond, append_assoc, append-nil, eq-eqb, max, All}
+use Rattle.std.proofs.Common.{◌≡◌, ℕ, ◌+◌, ◌<◌, ◌≤◌, Bool, true, false, Option, None, Some, List, [], ◌∷◌, ◌++◌, refl, sym, ◌∙◌, ap, subst, inl, inr, arith, cond, eq-eqb, max, All}
 use Rattle.std.specs.Prelude.{fold, map, filter, is_some, slice_get, count_by}
 use Rattle.std.specs.Option.{option_and_then, option_map}
 use Rattle.std.specs.List.{AllByRecursion}
@@ -29,9 +29,9 @@ use Rattle.event_core.specs.MemoryRows.{run_of_claim, report_event, next_run, cl
 use Rattle.event_core.specs.Next.{Step, next_step, step_of, unrefused_step, refused_or, accept_step, claim_reply, report_reply}
 use Rattle.event_core.specs.Legal.{Follows, LegalAfter, bare, with_bytes, moved_after, with_moved, at_place, place_of, same_place, CallsFit, ComesBefore, greatest_stamp, stamp_of}
 use Rattle.event_core.proofs.StandingLemmas.{IsPlaced, claim_of-memory, calls_of-memory}
-use Rattle.event_core.proofs.SoundLemmas.{entries_of-push}
 use Rattle.memory_core.specs.Steps.{last_stamp}
-use Rattle.guest_run.specs.Running.{IsMine, History, entry_for, Running, memory_of}
+use Rattle.guest_run.specs.Running.{IsMine, OwnHistory, entry_for, Running, memory_of}
+use Rattle.event_core.proofs.LocalLemmas.{moved-entries}
 
 -- Histories of one processor, whose number is 0.
 
@@ -70,14 +70,14 @@ at-stamps clock (place.Area a) moved all = greatest-le clock 0 _ (omega arith) (
 at-stamps clock place.Own moved all = omega arith
 
 -- the next stamp
-next-stamp : (boot : Boot) (moved : List Moved) (clock : ℕ) (p : Place) → History boot moved clock → stamp_of (made_by 0 moved) (at_place p moved) ≡ clock + 1
+next-stamp : (boot : Boot) (moved : List Moved) (clock : ℕ) (p : Place) → OwnHistory boot moved clock → stamp_of (made_by 0 moved) (at_place p moved) ≡ clock + 1
 next-stamp boot moved clock p history =
     let own : greatest_stamp (made_by 0 moved) ≡ clock = ap greatest_stamp (mine-all boot moved history.each) ∙ history.greatest in
     let there = at-stamps clock p moved history.stamps in
     omega (arith, own, there)
 
 -- what makes a step that may be made an entry that follows
-pub follows : (boot : Boot) (scripts : List (List Command)) (moved : List Moved) (clock : ℕ) (s : Step) → History boot moved clock → next_step boot scripts 0 moved (at_place (place_of boot s.event) moved) (calls_in s.event) ≡ Some s → CallsFit boot (entries_of (at_place (place_of boot s.event) moved)) s.event → Follows boot scripts moved (entry_for clock (replied moved) boot s)
+pub follows : (boot : Boot) (scripts : List (List Command)) (moved : List Moved) (clock : ℕ) (s : Step) → OwnHistory boot moved clock → next_step boot scripts 0 moved (at_place (place_of boot s.event) moved) (calls_in s.event) ≡ Some s → CallsFit boot (entries_of (at_place (place_of boot s.event) moved)) s.event → Follows boot scripts moved (entry_for clock (replied moved) boot s)
 follows boot scripts moved clock s history next fits = record {
   over = record {
     number = ap replied (sym (mine-all boot moved history.each));
@@ -89,7 +89,7 @@ follows boot scripts moved clock s history next fits = record {
 }
 
 -- the history with that entry
-pub history-push : (boot : Boot) (moved : List Moved) (clock number : ℕ) (s : Step) (bytes : List ℕ) → History boot moved clock → History boot (moved ++ record { entry = entry_for clock number boot s; bytes = bytes } ∷ []) (clock + 1)
+pub history-push : (boot : Boot) (moved : List Moved) (clock number : ℕ) (s : Step) (bytes : List ℕ) → OwnHistory boot moved clock → OwnHistory boot (moved ++ record { entry = entry_for clock number boot s; bytes = bytes } ∷ []) (clock + 1)
 history-push boot moved clock number s bytes history = record {
   each = all-push (IsMine boot) moved _ history.each (refl, refl);
   stamps = all-push (λ (m : Moved). m.entry.stamp ≤ clock + 1) moved _ (stamps-more clock (clock + 1) moved (omega arith) history.stamps) (omega arith);
@@ -104,13 +104,6 @@ legal-push boot scripts before (e ∷ entries) entry legal here later = (legal.0
 pub moved-push : (boot : Boot) (scripts : List (List Command)) (before : List Moved) (entries : List Entry) (entry : Entry) → moved_after boot scripts before (entries ++ entry ∷ []) ≡ moved_after boot scripts before entries ++ with_bytes boot scripts (moved_after boot scripts before entries) entry ∷ []
 moved-push boot scripts before [] entry = refl
 moved-push boot scripts before (e ∷ entries) entry = moved-push boot scripts (before ++ with_bytes boot scripts before e ∷ []) entries entry
-
-pub moved-entries : (boot : Boot) (scripts : List (List Command)) (before : List Moved) (entries : List Entry) → entries_of (moved_after boot scripts before entries) ≡ entries_of before ++ entries
-moved-entries boot scripts before [] = sym (append-nil (entries_of before))
-moved-entries boot scripts before (e ∷ entries) =
-    moved-entries boot scripts (before ++ with_bytes boot scripts before e ∷ []) entries
-    ∙ ap (λ es. es ++ entries) (entries_of-push before (with_bytes boot scripts before e))
-    ∙ append_assoc (entries_of before) (e ∷ []) entries
 
 all-later : (clock : ℕ) (entry : Entry) (moved : List Moved) → clock < entry.stamp → AllByRecursion (λ (m : Moved). m.entry.stamp ≤ clock) moved → All (λ (m : Moved). ComesBefore m.entry entry) moved
 all-later clock entry [] low all = All-nil (λ (m : Moved). ComesBefore m.entry entry)
@@ -129,7 +122,7 @@ pub running-push : (boot : Boot) (scripts : List (List Command)) (entries : List
 running-push boot scripts entries clock s run next fits =
     let entry = entry_for clock (replied (with_moved boot scripts entries)) boot s in
     let here = follows boot scripts (with_moved boot scripts entries) clock s run.history next fits in
-    let P : List Moved → Type 0 = λ moved. History boot moved (clock + 1) in
+    let P : List Moved → Type 0 = λ moved. OwnHistory boot moved (clock + 1) in
     record {
       legal = legal-push boot scripts [] entries entry run.legal here (all-later clock entry (with_moved boot scripts entries) (omega arith) run.history.stamps);
       history = subst P (sym (moved-push boot scripts [] entries entry)) (history-push boot (with_moved boot scripts entries) clock (replied (with_moved boot scripts entries)) s _ run.history);

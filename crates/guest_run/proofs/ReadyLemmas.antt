@@ -29,7 +29,7 @@ use Rattle.page_module.specs.Spans.{Taken}
 use Rattle.accept_sizes.specs.Accepts.{Accepts}
 use Rattle.memory_core.specs.Booted.{IsBooted}
 use Rattle.memory_core.specs.Value.{MemoryValue}
-use Rattle.memory_core.specs.Steps.{Appends, IsOutFor, last_stamp, bare_entry, pages_of}
+use Rattle.memory_core.specs.Steps.{Appends, MayBegin, IsOutFor, last_stamp, bare_entry, pages_of}
 use Rattle.memory_core.specs.Answers.{BegunBy, ReportedBy, IsBlocked}
 use Rattle.memory_core.specs.declared.memory.Begin.{Begin}
 use Rattle.memory_core.specs.declared.memory.Begin.TheVariants.{Clear, Claimed as IsClaimed, Blocked}
@@ -40,7 +40,8 @@ use Rattle.guest_run.specs.declared.processor.Processor.{Processor}
 use Rattle.guest_run.specs.Running.{At, made_entry}
 use Rattle.guest_run.specs.Ready.{Ready, Claiming, EndsOr, calls_by_now, next_turn}
 use Rattle.guest_run.specs.Answered.{begun_with, span_in, reply_in, IsRunOf}
-use Rattle.guest_run.proofs.OneProcessor.{last-low, clear-way}
+use Rattle.guest_run.specs.Recordings.{HaltedAt}
+use Rattle.guest_run.proofs.OneProcessor.{last-low, clear-way, there-calls, running-placed}
 use Rattle.guest_run.proofs.AtLemmas.{at-refused, at-query, at-claim, at-report, query_step, claim_made, report_made, bare_made, number_after}
 use Rattle.guest_run.proofs.SpanLemmas.{same-units, pages-behind, pages-some, span-accepts}
 
@@ -65,6 +66,22 @@ last-small p number clock memory ready is small kept =
     let low = last-of p number None ready.at in
     let same = ap (λ (m : MemoryValue). last_stamp m.entries) kept in
     omega (arith, low, same, is, small)
+
+-- the processor may begin a step for which there is room
+pub may-begin : (p : Processor) (number units : ℕ) (turn : Turn) (memory : MemoryValue) → Ready p number → turn ≡ next_turn p number → turn.clock < 2 ^ 64 → memory ≡ record p.memory { room = memory.room } → units < memory.room → MayBegin memory turn units
+may-begin p number units turn memory ready is small kept room =
+    let length_is : length p.entries ≡ turn.clock = sym (ap (λ (t : Turn). t.clock) is) in
+    let boot : memory.boot ≡ p.boot = ap (λ (m : MemoryValue). m.boot) kept ∙ ready.same in
+    let cpu : turn.cpu.0 ≡ 0 = ap (λ (t : Turn). t.cpu.0) is in
+    let cpus : memory.boot.cpus ≡ p.boot.cpus = ap (λ (b : Boot). b.cpus) boot in
+    let one = ready.at.cpus in
+    record {
+      cpu = omega (arith, cpu, cpus, one);
+      free = ap (λ n. claim_of memory.boot memory.entries n) cpu ∙ ap (λ (m : MemoryValue). claim_of m.boot m.entries 0) kept ∙ ap (λ b. claim_of b p.memory.entries 0) ready.same ∙ ready.at.claims;
+      clock = small;
+      last = last-small p number turn.clock memory ready length_is small kept;
+      room = room;
+    }
 
 -- room changes nothing of a processor
 pub ready-room : (p : Processor) (number : ℕ) (memory : MemoryValue) → Ready p number → memory ≡ record p.memory { room = memory.room } → Ready (record p { memory = memory }) number
@@ -148,15 +165,13 @@ claim-run p number memory units (Some r) (Some s) ready same begun is =
 -- what a run that is out is known of
 record OutRun (boot : Boot) (run : Units) (span : Taken) : Type 0 where
   some : 0 < run.count
-  low : span.ticket.pages.first + span.ticket.pages.count ≤ 2 ^ 28
   more : 0 < span.ticket.pages.count
 
-out-run : (boot : Boot) (calls : List ModuleCall) (from end : ℕ) (run : Units) (span : Taken) → IsBooted boot → IsRunIn (bit_after boot calls) from end run → span.ticket.pages ≡ pages_of boot run → span.ticket.pages.first + span.ticket.pages.count ≤ 2 ^ 28 → OutRun boot run span
-out-run boot calls from end run span booted facts is low =
+out-run : (boot : Boot) (calls : List ModuleCall) (from end : ℕ) (run : Units) (span : Taken) → IsBooted boot → IsRunIn (bit_after boot calls) from end run → span.ticket.pages ≡ pages_of boot run → OutRun boot run span
+out-run boot calls from end run span booted facts is =
     let more = pages-some boot run booted.some facts.some in
     record {
       some = facts.some;
-      low = low;
       more = (let P : Pages → Type 0 = λ pages. 0 < pages.count in subst P (sym is) more);
     }
 
@@ -172,7 +187,7 @@ claim-ends p number start len stamp memory e r None (Some run) (Some s) ready no
 claim-ends p number start len stamp memory e r (Some u) (Some run) (Some s) ready now fine same begun is_run is at =
     let calls = calls_of p.boot p.memory.entries in
     let claim : Claimed = record { block = None; units = u; run = run; before = calls; cleared = 0 } in
-    let facts = out-run p.boot calls u.first (units_end u) run s ready.booted (first_run-facts (bit_after p.boot calls) u.first (units_end u) run (sym is)) is_run begun.out.low in
+    let facts = out-run p.boot calls u.first (units_end u) run s ready.booted (first_run-facts (bit_after p.boot calls) u.first (units_end u) run (sym is)) is_run in
     let zero_more : number + 0 ≡ number = omega arith in
     let P : ℕ → Type 0 = λ n. At p.boot p.script (p.entries ++ entry_with stamp number place.Memory e r ∷ []) memory.entries n (Some claim) in
     let Q : Units → Type 0 = λ x. IsOutFor memory 0 x s in
@@ -183,7 +198,6 @@ claim-ends p number start len stamp memory e r (Some u) (Some run) (Some s) read
       booted = ready.booted;
       out = subst Q (sym (out-is p.boot memory begun.run run s same ready.booted.some begun.out is_run)) begun.out;
       some = facts.some;
-      low = facts.low;
       more = facts.more;
       start = start;
       len = len;
@@ -243,7 +257,7 @@ told-by boot old new turn claim calls (Closed count) None same same' some cpu by
     record { behind = sym none; answer = close-reply boot claim (stop_of calls) (cleared_by boot old.entries claim calls) count by.0 none (by.2 ∙ ap (λ b. cleared_by b old.entries claim calls) same) }
 told-by boot old new turn claim calls Stopped (Some next) same same' some cpu by is = absurd is
 told-by boot old new turn claim calls Stopped None same same' some cpu by is =
-    record { behind = stop-next boot claim (stop_of calls) by; answer = stop-reply boot claim (stop_of calls) (cleared_by boot old.entries claim calls) by }
+    record { behind = stop-next boot claim (stop_of calls) by.0; answer = stop-reply boot claim (stop_of calls) (cleared_by boot old.entries claim calls) by.0 }
 
 closes : (boot : Boot) (before calls : List ModuleCall) (claim : Claimed) (stop : Option Page) (next : Option Units) → next ≡ None → goes_on boot before calls (Some claim) stop next ≡ None
 closes boot before calls claim None None is = refl
@@ -279,7 +293,7 @@ report-ends p number stamp memory span e calls Stopped None c same by is told at
 report-ends p number stamp memory span e calls (Next s) (Some next) c same by is told at =
     let before = calls_of p.boot p.memory.entries in
     let claim = next_claim p.boot before calls c.claim next in
-    let facts = out-run p.boot c.claim.before (units_end c.claim.run) (units_end c.claim.units) next s c.booted (next-facts p.boot c.claim (stop_of calls) next (sym told.behind)) is by.out.low in
+    let facts = out-run p.boot c.claim.before (units_end c.claim.run) (units_end c.claim.units) next s c.booted (next-facts p.boot c.claim (stop_of calls) next (sym told.behind)) is in
     let zero_more : number + 0 ≡ number = omega arith in
     let P : ℕ → Type 0 = λ n. At p.boot p.script (p.entries ++ entry_with stamp number place.Memory e None ∷ []) memory.entries n (Some claim) in
     let C : Option Claimed → Type 0 = λ x. At p.boot p.script (p.entries ++ entry_with stamp number place.Memory e None ∷ []) memory.entries (number + 0) x in
@@ -291,7 +305,6 @@ report-ends p number stamp memory span e calls (Next s) (Some next) c same by is
       booted = c.booted;
       out = subst Q (sym (out-is p.boot memory by.run next s same c.booted.some by.out is)) by.out;
       some = facts.some;
-      low = facts.low;
       more = facts.more;
       start = c.start;
       len = c.len;
@@ -357,3 +370,32 @@ report-further boot old new turn claim calls (Next s) span same same' size some 
     let a = ap (λ (x : Pages). x.first) is in
     let b = ap (λ (x : Pages). x.first) pages in
     omega (arith, less, a, b)
+
+-- ---- where memory runs out
+
+-- the calls so far are those of a legal history
+halted-at : (p : Processor) (number : ℕ) (claim : Option Claimed) (made : List ModuleCall) → At p.boot p.script p.entries p.memory.entries number claim → made ≡ calls_by_now p → HaltedAt p.boot p.script made
+halted-at p number claim made at is =
+    (p.entries, at.running.legal, is ∙ ap (calls_of p.boot) at.there ∙ there-calls p.boot (p.script ∷ []) p.entries (running-placed p.boot (p.script ∷ []) p.entries (length p.entries) at.running))
+
+pub ready-halted : (p : Processor) (number : ℕ) (made : List ModuleCall) → Ready p number → made ≡ calls_by_now p → HaltedAt p.boot p.script made
+ready-halted p number made ready is = halted-at p number None made ready.at is
+
+pub claiming-halted : (p : Processor) (number : ℕ) (span : Taken) (made : List ModuleCall) → Claiming p number span → made ≡ calls_by_now p → HaltedAt p.boot p.script made
+claiming-halted p number span made c is = halted-at p number (Some c.claim) made c.at is
+
+-- the same behind the calls of a report, which needn't be recorded
+pub report-halted : (p : Processor) (number : ℕ) (span worked : Taken) (calls made : List ModuleCall) → Claiming p number span → Accepts p.boot.hosts span worked calls → made ≡ calls_by_now p ++ calls → HaltedAt p.boot p.script made
+report-halted p number span worked calls made c accepts is =
+    let before = calls_of p.boot p.memory.entries in
+    let cleared = cleared_by p.boot p.memory.entries c.claim calls in
+    let s = report_made p.boot c.claim calls cleared in
+    let H : Boot → Type 0 = λ b. AcceptsUnits b (calls_of b p.memory.entries) c.claim.run calls in
+    let X : Boot → Type 0 = λ b. Accepts b.hosts span worked calls in
+    let accepted : AcceptsUnits p.boot before c.claim.run calls = subst H c.same (span-accepts p.memory.boot (calls_of p.memory.boot p.memory.entries) c.claim.run span worked calls c.out.has (subst X (sym c.same) accepts)) in
+    let at = at-report p.boot p.script p.entries p.memory.entries number c.start c.len c.claim calls cleared c.at c.command c.fine accepted refl in
+    let entries = p.entries ++ made_entry p.boot p.entries number s ∷ [] in
+    let run_on : calls_of p.boot entries ≡ before ++ calls =
+    sym (ap (calls_of p.boot) at.there ∙ there-calls p.boot (p.script ∷ []) entries (running-placed p.boot (p.script ∷ []) entries (length entries) at.running))
+    ∙ calls_of-push p.boot p.memory.entries (bare_made p.boot p.entries number s) in
+    (entries, at.running.legal, is ∙ sym run_on)

@@ -1,10 +1,10 @@
-use Rattle.std.proofs.Common.{◌≡◌, ℕ, ◌+◌, ◌-◌, ◌*◌, ◌/◌, ◌<◌, ◌≤◌, Bool, true, false, ◌&&◌, Option, None, List, refl, sym, ◌∙◌, ap, subst, arith, cond}
+use Rattle.std.proofs.Common.{◌≡◌, ℕ, ◌+◌, ◌-◌, ◌*◌, ◌/◌, ◌<◌, ◌≤◌, Bool, None, List, sym, ◌∙◌, ap, subst, arith}
 use Rattle.std.proofs.Math.Path.{fun_ext}
 use Rattle.std.proofs.Math.Nat.{mul-div_cancel, mul-le-mul_right}
 use Rattle.guest_base.specs.Ranges.{in_range}
 use Rattle.guest_base.specs.declared.memory.Pages.{Pages}
 use Rattle.guest_base.specs.declared.memory.Units.{Units}
-use Rattle.guest_base.specs.declared.memory.PageState.{PageState}
+use Rattle.event_core.proofs.StepsLemmas.{pending-if}
 use Rattle.event_core.specs.declared.boot.Boot.{Boot}
 use Rattle.event_core.specs.declared.module_call.ModuleCall.{ModuleCall}
 use Rattle.event_core.specs.Acceptance.{AcceptanceSteps}
@@ -52,10 +52,6 @@ pub pages-some : (boot : Boot) (run : Units) → 0 < unit_pages boot → 0 < run
 pages-some boot run size some =
     let le : 1 * unit_pages boot ≤ run.count * unit_pages boot = mul-le-mul_right (unit_pages boot) some in
     omega (arith, le, size)
-
-pending-if : (b : Bool) (s : Option PageState) → is_pending (cond b s None) ≡ (b && is_pending s)
-pending-if true s = refl
-pending-if false s = refl
 
 same-set : (boot : Boot) (before : List ModuleCall) (run : Units) (taken : Taken) → HasStates boot before run taken → pending_of taken ≡ pending_in boot before run
 unfolding pending_in

@@ -1,10 +1,8 @@
-use Rattle.std.proofs.Common.{◌≡◌, ℕ, zero, suc, ◌+◌, ◌<◌, Bool, true, false, Option, None, Some, List, [], ◌∷◌, ◌++◌, refl, sym, ◌∙◌, ap, subst, arith, cond, length, All}
-use Rattle.std.specs.Prelude.{slice_get, is_none, find}
+use Rattle.std.proofs.Common.{◌≡◌, ℕ, zero, suc, ◌<◌, Bool, true, false, Option, None, Some, List, [], ◌∷◌, ◌++◌, refl, sym, ◌∙◌, ap, subst, arith, length, All}
+use Rattle.std.specs.Prelude.{slice_get, is_none}
 use Rattle.std.specs.Option.{option_and_then, option_map}
-use Rattle.std.specs.List.{AllByRecursion, AllPairs}
-use Rattle.std.proofs.lemmas.List.Elements.{All-nil, All-cons, recursion_from_All}
-use Rattle.std.proofs.lemmas.List.Kept.{AllPairs-cons}
-use Rattle.guest_base.specs.Ranges.{in_range}
+use Rattle.std.specs.List.{AllByRecursion}
+use Rattle.std.proofs.lemmas.List.Elements.{recursion_from_All}
 use Rattle.guest_base.specs.declared.memory.PageRun.{PageRun}
 use Rattle.guest_base.specs.declared.memory.PageState.{PageState}
 use Rattle.guest_base.specs.declared.memory.Units.{Units}
@@ -21,7 +19,7 @@ use Rattle.event_core.specs.Calls.{calls_in, calls_of}
 use Rattle.event_core.specs.declared.boot.Recorded.{Recorded}
 use Rattle.event_core.specs.RangedScripts.{IsRanged, RangedScripts}
 use Rattle.event_core.proofs.SoundLemmas.{legal-apart, apart-start}
-use Rattle.event_core.specs.Runs.{AreMaximalRuns, GoesBefore, run_holds, run_end, state_in as state_by}
+use Rattle.event_core.specs.Runs.{AreMaximalRuns}
 use Rattle.event_core.specs.Units.{guarded_units}
 use Rattle.event_core.specs.Claims.{Claimed, claim_of}
 use Rattle.event_core.specs.Moved.{Moved, entries_of, made_by}
@@ -33,16 +31,15 @@ use Rattle.event_core.specs.Next.{Step, next_step, step_of, unrefused_step, refu
 use Rattle.event_core.specs.Legal.{LegalAfter, Whole, with_bytes, with_moved, at_place}
 use Rattle.event_core.specs.Turns.{TakenIn, is_idle, Turned, rounds_of}
 use Rattle.page_module.specs.States.{state_in}
-use Rattle.page_module.specs.Tables.{IsMaximal, Rising, Differing}
 use Rattle.memory_core.specs.Answers.{NoneOpen}
 use Rattle.memory_core.specs.Booted.{IsBooted}
 use Rattle.memory_core.specs.Value.{MemoryValue}
-use Rattle.guest_run.specs.First.{IsFirstCommand}
 use Rattle.guest_run.specs.Running.{IsMine, At}
 use Rattle.guest_run.specs.Ready.{Ready, calls_by_now}
-use Rattle.guest_run.specs.Recordings.{History}
+use Rattle.guest_run.specs.Recordings.{OneHistory}
 use Rattle.guest_run.specs.declared.processor.Processor.{Processor}
-use Rattle.guest_run.proofs.OneProcessor.{clear-way, mine-all, running-start, moved-entries, running-placed, there-claim, there-calls}
+use Rattle.event_core.proofs.LocalLemmas.{moved-entries}
+use Rattle.guest_run.proofs.OneProcessor.{clear-way, mine-all, running-start, running-placed, there-claim, there-calls}
 
 -- ---- no turn is idle
 
@@ -57,12 +54,12 @@ refused-some : (refusal : Option Reply) (step : Option Step) → is_none step �
 refused-some None step h = h
 refused-some (Some r) step h = refl
 
-unrefused-some : (boot : Boot) (own : Own) (memory : List Moved) (c : Command) → boot.cpus ≡ 1 → IsFirstCommand c → is_none (unrefused_step boot 0 own memory c []) ≡ false
+unrefused-some : (boot : Boot) (own : Own) (memory : List Moved) (c : Command) → boot.cpus ≡ 1 → IsRanged c → is_none (unrefused_step boot 0 own memory c []) ≡ false
 unrefused-some boot own memory (command.Accept start len) one first = accept-some boot (entries_of memory) (claim_of boot (entries_of memory) 0) (guarded_units boot start len) one refl
 unrefused-some boot own memory (command.Query start len) one first = refl
 unrefused-some boot own memory _ one first = absurd first
 
-step-some : (boot : Boot) (own : Own) (memory : List Moved) (c : Command) → boot.cpus ≡ 1 → IsFirstCommand c → is_none (step_of boot 0 own memory c []) ≡ false
+step-some : (boot : Boot) (own : Own) (memory : List Moved) (c : Command) → boot.cpus ≡ 1 → IsRanged c → is_none (step_of boot 0 own memory c []) ≡ false
 step-some boot own memory c one first = refused-some (refusal_of boot own c) _ (unrefused-some boot own memory c one first)
 
 slice_get-all : (P : Command → Type 0) (script : List Command) (n : ℕ) (c : Command) → AllByRecursion P script → slice_get script n ≡ Some c → P c
@@ -70,11 +67,11 @@ slice_get-all P [] n c all is = cc
 slice_get-all P (x ∷ script) zero c all is = (let same : x ≡ c = cc in subst P same all.0)
 slice_get-all P (x ∷ script) (suc n) c all is = slice_get-all P script n c all.1 is
 
-present-some : (boot : Boot) (script : List Command) (number : ℕ) (own : Own) (memory there : List Moved) (calls : List ModuleCall) (c : Option Command) (s : Step) → boot.cpus ≡ 1 → AllByRecursion IsFirstCommand script → slice_get script number ≡ c → option_and_then (λ x. step_of boot 0 own there x calls) c ≡ Some s → is_none (option_and_then (λ x. step_of boot 0 own memory x []) c) ≡ false
+present-some : (boot : Boot) (script : List Command) (number : ℕ) (own : Own) (memory there : List Moved) (calls : List ModuleCall) (c : Option Command) (s : Step) → boot.cpus ≡ 1 → AllByRecursion IsRanged script → slice_get script number ≡ c → option_and_then (λ x. step_of boot 0 own there x calls) c ≡ Some s → is_none (option_and_then (λ x. step_of boot 0 own memory x []) c) ≡ false
 present-some boot script number own memory there calls None s one first is h = cc
-present-some boot script number own memory there calls (Some c) s one first is h = step-some boot own memory c one (slice_get-all IsFirstCommand script number c first is)
+present-some boot script number own memory there calls (Some c) s one first is h = step-some boot own memory c one (slice_get-all IsRanged script number c first is)
 
-pub not-idle : (boot : Boot) (script : List Command) (own memory there : List Moved) (calls : List ModuleCall) (s : Step) → boot.cpus ≡ 1 → AllByRecursion IsFirstCommand script → next_step boot (script ∷ []) 0 own there calls ≡ Some s → is_none (next_step boot (script ∷ []) 0 own memory []) ≡ false
+pub not-idle : (boot : Boot) (script : List Command) (own memory there : List Moved) (calls : List ModuleCall) (s : Step) → boot.cpus ≡ 1 → AllByRecursion IsRanged script → next_step boot (script ∷ []) 0 own there calls ≡ Some s → is_none (next_step boot (script ∷ []) 0 own memory []) ≡ false
 not-idle boot script own memory there calls s one first h = present-some boot script (replied own) (own_of script own) memory there calls (slice_get script (replied own)) s one first refl h
 
 taken-if : (idle : Bool) (A B : Type 0) → idle ≡ false → B → elim idle as (λ _. Type 0) [ true ↦ A | false ↦ B ]
@@ -82,7 +79,7 @@ taken-if true A B h b = cc
 taken-if false A B h b = b
 
 -- a legal history of the processor is taken turn by turn
-pub taken-one : (boot : Boot) (script : List Command) (history : List Moved) (entries : List Entry) → boot.cpus ≡ 1 → AllByRecursion IsFirstCommand script → AllByRecursion (λ (e : Entry). e.cpu.0 ≡ 0) entries → LegalAfter boot (script ∷ []) history entries → TakenIn boot (script ∷ []) history (rounds_of 1 (length entries)) entries
+pub taken-one : (boot : Boot) (script : List Command) (history : List Moved) (entries : List Entry) → boot.cpus ≡ 1 → AllByRecursion IsRanged script → AllByRecursion (λ (e : Entry). e.cpu.0 ≡ 0) entries → LegalAfter boot (script ∷ []) history entries → TakenIn boot (script ∷ []) history (rounds_of 1 (length entries)) entries
 taken-one boot script history [] one first mine legal = refl
 taken-one boot script history (entry ∷ entries) one first mine legal =
     let own = made_by entry.cpu.0 history in
@@ -106,7 +103,7 @@ ended-one boot script history done zero =
     ap (λ c. is_none (option_and_then (λ x. step_of boot 0 (own_of script (made_by 0 history)) (at_place place.Memory history) x []) c)) (ap (slice_get script) done ∙ none-behind script)
 ended-one boot script history done (suc cpu) = refl
 
-pub turned-one : (boot : Boot) (script : List Command) (entries : List Entry) (memory : List Entry) (number : ℕ) (claim : Option Claimed) → AllByRecursion IsFirstCommand script → At boot script entries memory number claim → number ≡ length script → Turned boot (script ∷ []) [] entries
+pub turned-one : (boot : Boot) (script : List Command) (entries : List Entry) (memory : List Entry) (number : ℕ) (claim : Option Claimed) → AllByRecursion IsRanged script → At boot script entries memory number claim → number ≡ length script → Turned boot (script ∷ []) [] entries
 turned-one boot script entries memory number claim first at is =
     let P : List Entry → Type 0 = AllByRecursion (λ (e : Entry). e.cpu.0 ≡ 0) in
     record {
@@ -152,7 +149,7 @@ ready-first boot script memory entries same none empty booted one =
 
 -- ---- the end
 
-ranged-one : (script : List Command) → All IsFirstCommand script → RangedScripts (script ∷ [])
+ranged-one : (script : List Command) → All IsRanged script → RangedScripts (script ∷ [])
 ranged-one script first = (recursion_from_All IsRanged script first, tt)
 
 none-of : (boot : Boot) (memory : List Entry) (cpu : ℕ) (found : Option Claimed) → ((claim : Claimed) → found ≡ Some claim → cpu < 1) → claim_of boot memory cpu ≡ found → claim_of boot memory 0 ≡ None → claim_of boot memory cpu ≡ None
@@ -160,7 +157,7 @@ none-of boot memory cpu None low is none = is
 none-of boot memory cpu (Some claim) low is none = let zero_is : cpu ≡ 0 = (let l = low claim refl in omega (arith, l)) in ap (claim_of boot memory) zero_is ∙ none
 
 -- no claim is open with any processor
-pub none-open : (p : Processor) (number : ℕ) → All IsFirstCommand p.script → Ready p number → NoneOpen p.memory
+pub none-open : (p : Processor) (number : ℕ) → All IsRanged p.script → Ready p number → NoneOpen p.memory
 none-open p number first ready cpu =
     let at = ready.at in
     let apart = legal-apart p.boot (p.script ∷ []) [] p.entries (ranged-one p.script first) (sym at.cpus) tt (apart-start p.boot) at.running.legal in
@@ -178,56 +175,20 @@ pub states-are : (p : Processor) (number : ℕ) (table : List PageRun) → Ready
 states-are p number table ready states page =
     states page ∙ ap (λ b. page_state b (calls_of b p.memory.entries) page) ready.same ∙ ap (λ calls. page_state p.boot calls page) (sym (calls-are p number ready))
 
-pub history-of : (p : Processor) (scripts : List (List Command)) → All IsFirstCommand p.script → Ready p (length p.script) → scripts ≡ p.script ∷ [] → History [] (let r : Recorded = record { boot = p.boot; scripts = scripts; entries = p.entries } in r)
+pub history-of : (p : Processor) (scripts : List (List Command)) → All IsRanged p.script → Ready p (length p.script) → scripts ≡ p.script ∷ [] → OneHistory [] (let r : Recorded = record { boot = p.boot; scripts = scripts; entries = p.entries } in r)
 history-of p scripts first ready is =
     let W : List (List Command) → Type 0 = λ s. Whole p.boot s p.entries in
     let T : List (List Command) → Type 0 = λ s. Turned p.boot s [] p.entries in
     record {
       whole = subst W (sym is) (whole-one p.boot p.script p.entries p.memory.entries (length p.script) None ready.at refl);
-      turned = subst T (sym is) (turned-one p.boot p.script p.entries p.memory.entries (length p.script) None (recursion_from_All IsFirstCommand p.script first) ready.at refl);
+      turned = subst T (sym is) (turned-one p.boot p.script p.entries p.memory.entries (length p.script) None (recursion_from_All IsRanged p.script first) ready.at refl);
     }
 
 -- ---- runs of pages, in the words of the page table and of the history
 
-same-found : (b : Bool) (run : PageRun) (rest : Option PageState) (others : Option PageRun) → rest ≡ option_map (λ (r : PageRun). r.state) others → cond b (Some run.state) rest ≡ option_map (λ (r : PageRun). r.state) (cond b (Some run) others)
-same-found true run rest others h = refl
-same-found false run rest others h = h
-
-pub state-same : (runs : List PageRun) (page : ℕ) → state_in runs page ≡ state_by runs page
-state-same [] page = refl
-state-same (run ∷ runs) page = same-found (in_range run.pages.first run.pages.count page) run (state_in runs page) (find (run_holds page) runs) (state-same runs page)
-
-far-behind : (run : PageRun) (from : ℕ) (runs : List PageRun) → run_end run < from → Rising from runs → All (GoesBefore run) runs
-far-behind run from [] far rising = All-nil (GoesBefore run)
-far-behind run from (next ∷ runs) far rising =
-    let low = rising.0 in
-    let some = rising.1 in
-    All-cons (GoesBefore run) next runs (record { ends = omega arith; differs = λ touch. absurd (omega arith) }) (far-behind run (next.pages.first + next.pages.count) runs (omega arith) rising.3)
-
-all-behind : (run : PageRun) (runs : List PageRun) → Rising (run_end run) runs → Differing (run ∷ runs) → All (GoesBefore run) runs
-all-behind run [] rising differing = All-nil (GoesBefore run)
-all-behind run (next ∷ runs) rising differing =
-    let low = rising.0 in
-    let some = rising.1 in
-    All-cons (GoesBefore run) next runs (record { ends = low; differs = differing.0 }) (far-behind run (next.pages.first + next.pages.count) runs (omega arith) rising.3)
-
-differing-tail : (run : PageRun) (runs : List PageRun) → Differing (run ∷ runs) → Differing runs
-differing-tail run [] d = tt
-differing-tail run (next ∷ runs) d = d.1
-
--- the runs that the table tells are maximal
-pairs-of : (runs : List PageRun) (from : ℕ) → Rising from runs → Differing runs → AllPairs GoesBefore runs
-pairs-of [] from rising differing = λ i j d lt high. absurd (omega arith)
-pairs-of (run ∷ runs) from rising differing =
-    AllPairs-cons GoesBefore run runs (all-behind run runs rising.3 differing) (pairs-of runs (run_end run) rising.3 (differing-tail run runs differing))
-
-some-of : (runs : List PageRun) (from : ℕ) → Rising from runs → All (λ (run : PageRun). 0 < run.pages.count) runs
-some-of [] from rising = All-nil (λ (run : PageRun). 0 < run.pages.count)
-some-of (run ∷ runs) from rising = All-cons (λ (run : PageRun). 0 < run.pages.count) run runs rising.1 (some-of runs (run_end run) rising.3)
-
-pub maximal-of : (states : ℕ → Option PageState) (table runs : List PageRun) → IsMaximal (state_in table) runs → ((page : ℕ) → state_in table page ≡ states page) → AreMaximalRuns states runs
+pub maximal-of : (states : ℕ → Option PageState) (table runs : List PageRun) → AreMaximalRuns (state_in table) runs → ((page : ℕ) → state_in table page ≡ states page) → AreMaximalRuns states runs
 maximal-of states table runs maximal same = record {
-  each = λ page. sym (state-same runs page) ∙ maximal.states page ∙ same page;
-  some = some-of runs 0 maximal.rising;
-  rise = pairs-of runs 0 maximal.rising maximal.differing;
+  each = λ page. maximal.each page ∙ same page;
+  some = maximal.some;
+  rise = maximal.rise;
 }

@@ -9,7 +9,6 @@ use Rattle.event_core.specs.declared.boot.Descriptor.{Descriptor}
 use Rattle.event_core.specs.declared.boot.Boot.{Boot}
 use Rattle.event_core.specs.declared.boot.Recorded.{Recorded}
 use Rattle.event_core.specs.declared.module_call.ModuleCall.{ModuleCall}
-use Rattle.event_core.specs.AcceptedOnce.{AcceptedOnce}
 use Rattle.event_core.specs.Boot.{BootRight}
 use Rattle.event_core.specs.Calls.{States, calls_of, is_done, covers, after_call, state_after, SoundCalls}
 use Rattle.event_core.specs.Map.{MapRules}
@@ -18,7 +17,9 @@ use Rattle.event_core.specs.Runs.{run_holds, state_in, AreMaximalRuns}
 use Rattle.event_core.proofs.BootFacts.{ram-low}
 use Rattle.event_core.specs.Table.{Bits}
 use Rattle.guest_base.specs.declared.memory.PageState.{PageState}
-use Rattle.guest_run.specs.Bounds.{EndInMemory}
+use Rattle.guest_text.specs.Printings.{EndInMemory, FinalRuns}
+use Rattle.guest_run.specs.Asking.{Asking}
+use Rattle.guest_run.specs.Recordings.{BootOfOne, KeepsRun}
 
 -- The final runs of pages end in memory.
 
@@ -68,14 +69,17 @@ runs_within map hosts table slots areas cpus boot calls runs rules right sound m
     elim (cases_lt page (2 ^ 28)) [
       | inl low ↦ omega (arith, low)
       | inr high ↦
-          let first : state_in boot.ram page ≡ None = none_where (state_in boot.ram page) (λ some. (let low = ram-low map hosts table slots areas cpus boot rules right page some in omega (arith, low, high))) in
+          let first : state_in boot.ram page ≡ None = none_where (state_in boot.ram page) (λ some. (let low = ram-low map hosts table slots areas cpus boot rules right.uncalled page some in omega (arith, low, high))) in
           let none : state_in runs page ≡ None = maximal.each page ∙ none_stays (state_in boot.ram) calls page sound first in
           absurd (found_in page runs k d lt (holds_last run page some (omega (arith, some))) (no_state page (find (run_holds page) runs) none))
     ]
 
 -- the runs that a run answers
-pub within_of : {E : Type 0} (map : List Descriptor) (hosts : List HostRun) (table : Option Bits) (slots areas : ℕ) (boot : Boot) (result : Result (Recorded × List PageRun) E) → MapRules map hosts → BootRight map hosts table slots areas 1 boot → IfOk result (λ r. r.0.boot ≡ boot) → IfOk result (λ r. AcceptedOnce r.0.boot r.0.entries) → IfOk result (λ r. AreMaximalRuns (page_state r.0.boot (calls_of r.0.boot r.0.entries)) r.1) → IfOk result (λ r. EndInMemory r.1)
-within_of map hosts table slots areas boot (Ok r) rules right is once maximal =
-    let B : Boot → Type 0 = BootRight map hosts table slots areas 1 in
-    runs_within map hosts table slots areas 1 r.0.boot (calls_of r.0.boot r.0.entries) r.1 rules (subst B (sym is) right) once.sound maximal
-within_of map hosts table slots areas boot (Err e) rules right is once maximal = tt
+pub final_of : {P E : Type 0} (ports : Asking P) (boot : Boot) (result : Result (Recorded × List PageRun) E) → BootOfOne boot → IfOk result (λ r. r.0.boot ≡ boot) → IfOk result (λ r. KeepsRun ports r.0) → IfOk result (λ r. AreMaximalRuns (page_state r.0.boot (calls_of r.0.boot r.0.entries)) r.1) → IfOk result (λ r. FinalRuns r.0 r.1)
+final_of ports boot (Ok r) right is keeps maximal =
+    let B : Boot → Type 0 = BootRight right.0 right.1 right.2 right.3 right.4 1 in
+    record {
+      maximal = maximal;
+      within = runs_within right.0 right.1 right.2 right.3 right.4 1 r.0.boot (calls_of r.0.boot r.0.entries) r.1 right.5 (subst B (sym is) right.7) keeps.accepted_once.sound maximal;
+    }
+final_of ports boot (Err e) right is keeps maximal = tt

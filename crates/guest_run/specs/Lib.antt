@@ -1,13 +1,10 @@
 pub mod Running
 pub mod Ready
 pub mod Answered
-pub mod First
 pub mod RangedCommand
 pub mod Replies
-pub mod Bounds
-pub mod Stops
-pub mod Causes
-pub mod Endings
-pub mod Stopping
+pub mod Asking
 pub mod Recordings
+pub mod Boots
+pub mod Stopping
 pub mod Ends

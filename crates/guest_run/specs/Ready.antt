@@ -1,4 +1,4 @@
-use Rattle.std.specs.Prelude.{ℕ, List, Option, None, Some, ◌≡◌, ◌+◌, ◌^◌, ◌<◌, ◌≤◌, length, slice_get}
+use Rattle.std.specs.Prelude.{ℕ, List, Option, None, Some, ◌≡◌, ◌+◌, ◌<◌, length, slice_get}
 use Rattle.event_core.specs.declared.command.Command.TheVariants.{Accept}
 use Rattle.event_core.specs.declared.entry.Turn.{Turn}
 use Rattle.event_core.specs.declared.module_call.ModuleCall.{ModuleCall}
@@ -33,7 +33,6 @@ pub record Claiming (p : Processor) (number : ℕ) (span : Taken) : Type 0 where
   pub booted : IsBooted p.boot
   pub out : IsOutFor p.memory 0 claim.run span
   pub some : 0 < claim.run.count
-  pub low : span.ticket.pages.first + span.ticket.pages.count ≤ 2 ^ 28
   pub more : 0 < span.ticket.pages.count
   pub start : ℕ
   pub len : ℕ

@@ -17,27 +17,30 @@ abbrev pub IsMine : Boot → Moved → Type 0
 IsMine boot m = (m.entry.cpu.0 ≡ 0) × (m.entry.place ≡ place_of boot m.entry.event)
 
 -- a history of the processor's entries, whose greatest stamp this is
-pub record History (boot : Boot) (moved : List Moved) (clock : ℕ) : Type 0 where
+pub record OwnHistory (boot : Boot) (moved : List Moved) (clock : ℕ) : Type 0 where
   pub each : AllByRecursion (IsMine boot) moved
   pub stamps : AllByRecursion (λ (m : Moved). m.entry.stamp ≤ clock) moved
   pub greatest : greatest_stamp moved ≡ clock
 
 -- the entry that a step makes
 abbrev pub entry_for : ℕ → ℕ → Boot → Step → Entry
-entry_for clock number boot s = record { stamp = clock + 1; cpu = record { 0 = 0 }; cmd = number; place = place_of boot s.event; event = s.event; reply = s.reply }
+entry_for clock number boot s =
+    record { stamp = clock + 1; cpu = record { 0 = 0 }; cmd = number; place = place_of boot s.event; event = s.event; reply = s.reply }
 
 -- a legal history of the processor
-pub record Running (boot : Boot) (scripts : List (List Command)) (entries : List Entry) (clock : ℕ) : Type 0 where
+pub record Running (boot : Boot) (scripts : List (List Command)) (entries : List Entry)
+    (clock : ℕ) : Type 0 where
   pub legal : Legal boot scripts entries
-  pub history : History boot (with_moved boot scripts entries) clock
+  pub history : OwnHistory boot (with_moved boot scripts entries) clock
 
 -- the bare entries of the memory in a history
 abbrev pub memory_of : Boot → List (List Command) → List Entry → List Entry
 memory_of boot scripts entries = entries_of (at_place Memory (with_moved boot scripts entries))
 
--- A run of one processor between two of its events: its history, the memory's entries in it, the number of its present command, and
--- its open claim.
-pub record At (boot : Boot) (script : List Command) (entries memory : List Entry) (number : ℕ) (claim : Option Claimed) : Type 0 where
+-- A run of one processor between two of its events: its history, the memory's entries in it, the
+-- number of its present command, and its open claim.
+pub record At (boot : Boot) (script : List Command) (entries memory : List Entry) (number : ℕ)
+    (claim : Option Claimed) : Type 0 where
   pub running : Running boot (script ∷ []) entries (length entries)
   pub present : replied (with_moved boot (script ∷ []) entries) ≡ number
   pub there : memory ≡ memory_of boot (script ∷ []) entries

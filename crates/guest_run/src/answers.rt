@@ -46,7 +46,7 @@ pub(crate) fn span_of_claim(begin: Begin) -> Option<Span>
 }
 
 /// The pages of the run with which a claim goes on after a report, where there is one, and else the reply of the acceptance: it
-/// stopped, or so many units were cleared.
+/// stopped, or this many units were cleared.
 pub(crate) fn after_report(reported: Reported) -> (Option<Span>, Option<Reply>)
     ensures next { result.0 ≡ span_in reported }
     ensures reply { result.1 ≡ reply_in reported }

@@ -1,21 +1,16 @@
-//! The run of a guest.
+//! The run of a guest: boot, turns, and the ending.
 #![tactic(auto)]
 
 mod answers;
-mod input;
 mod one;
-mod print;
 mod processor;
 mod program;
 mod room;
 mod run;
 mod spans;
-mod stop;
 
 pub use one::turns;
 pub use program::{Ended, plain, top};
 
-#[cfg(test)]
-mod guest_tests;
 #[cfg(test)]
 mod tests;

@@ -1,19 +1,20 @@
 //! The one processor of a run.
-ghost use Rattle.std.specs.Prelude.{◌≡◌, ℕ, List, [], ◌∷◌, ◌++◌, ◌+◌, ◌^◌, ◌<◌, ◌≤◌, None, Some, false, length, All, slice_get, IfOk, IfSome, OnOk};
+ghost use Rattle.std.specs.Prelude.{◌≡◌, ℕ, [], ◌∷◌, ◌++◌, ◌+◌, ◌^◌, ◌<◌, ◌≤◌, None, Some, false, length, All, slice_get, IfOk, IfSome, OnOk, OnErr};
 ghost use Rattle.event_core.specs.declared.command.Command.TheVariants.{Accept, Query};
 ghost use Rattle.event_core.specs.declared.command.Command.{Command as CommandValue};
 ghost use Rattle.event_core.specs.Holdings.{Own};
 ghost use Rattle.event_core.specs.Refusals.{memory_range_refusal, refusal_of};
-ghost use Rattle.guest_run.specs.First.{IsFirstCommand};
+ghost use Rattle.event_core.specs.RangedScripts.{IsRanged};
+ghost use Rattle.guest_run.specs.Recordings.{HaltedAt};
 ghost use Rattle.guest_run.specs.RangedCommand.{as_command};
 ghost use Rattle.guest_run.specs.Replies.{is_module, some_module, FaultsTold};
 
 use crate::answers::{after_report, range_refusal, reply_of_claim, span_of_claim};
-use crate::room::{take_room, unaccepted_of};
-use crate::spans::{accept_span, copy_of, run_of, stopped_page, units_of};
+use crate::room::take_room;
+use crate::spans::{accept_span, copy_of, run_of, units_of};
 use event_core::{Boot, Command, Entries, Entry, Event, Place, Reply, Script, Turn};
 use guest_base::CpuNo;
-use memory_core::Memory;
+use memory_core::{Memory, stopped_page};
 use page_module::{Port, Span};
 use std::alloc::{AllocError, Global};
 
@@ -51,8 +52,14 @@ impl Processor {
         reply: Option<Reply>,
     ) -> Result<(), AllocError>
         ensures { OnOk result (self.new ≡ record self.old {
-          entries = self.old.entries
-              ++ record { stamp = stamp; cpu = record { 0 = 0 }; cmd = number; place = place; event = event; reply = reply } ∷ [];
+          entries = self.old.entries ++ record {
+            stamp = stamp;
+            cpu = record { 0 = 0 };
+            cmd = number;
+            place = place;
+            event = event;
+            reply = reply;
+          } ∷ [];
         }) }
     {
         let entry = Entry {
@@ -81,13 +88,14 @@ impl Processor {
         requires fine { memory_range_refusal start len ≡ None }
         ensures goes_on { IfOk result (λ span. EndsOr self.new number span) }
         ensures quiet { OnOk result (calls_by_now self.new ≡ calls_by_now self.old) }
-        ensures no_fault { OnOk result (some_module self.new.entries ≡ some_module self.old.entries) }
+        ensures no_fault { OnOk result
+            (some_module self.new.entries ≡ some_module self.old.entries) }
         ensures boot { OnOk result (self.new.boot ≡ self.old.boot) }
         ensures script { OnOk result (self.new.script ≡ self.old.script) }
     {
         let mut turn = self.turn(number);
         let units = self.memory.claim_units(start, len);
-        let unaccepted = unaccepted_of(&self.memory, units);
+        let unaccepted = self.memory.unaccepted_units(start, len);
         take_room(alloc, &mut self.memory, unaccepted)?;
         let span = span_of_claim(self.memory.begin_accept(&mut turn, start, len));
         let run = run_of(&self.boot, &span);
@@ -117,10 +125,17 @@ impl Processor {
     ) -> Result<Option<Span>, AllocError>
         requires claiming { Claiming self.old number span }
         ensures goes_on { IfOk result (λ next. EndsOr self.new number next) }
-        ensures further { IfOk result (λ next. IfSome next (λ s. span.ticket.pages.first < s.ticket.pages.first)) }
-        ensures made { OnOk result (P.made port.old ≡ calls_by_now self.old → P.made port.new ≡ calls_by_now self.new) }
-        ensures told { OnOk result ((before : ℕ) → before ≤ P.faults port.old → FaultsTold before self.old.entries (P.faults port.old) → FaultsTold before self.new.entries (P.faults port.new)) }
+        ensures further { IfOk result (λ next.
+            IfSome next (λ s. span.ticket.pages.first < s.ticket.pages.first)) }
+        ensures made { OnOk result (P.made port.old ≡ calls_by_now self.old
+            → P.made port.new ≡ calls_by_now self.new) }
+        ensures told { OnOk result ((before : ℕ) → before ≤ P.faults port.old
+            → FaultsTold before self.old.entries (P.faults port.old)
+            → FaultsTold before self.new.entries (P.faults port.new)) }
         ensures faults { P.faults port.old ≤ P.faults port.new }
+        ensures never_fails { P.never_fails port.old → P.never_fails port.new }
+        ensures halted { OnErr result (P.made port.old ≡ calls_by_now self.old
+            → HaltedAt self.old.boot self.old.script (P.made port.new)) }
         ensures boot { OnOk result (self.new.boot ≡ self.old.boot) }
         ensures script { OnOk result (self.new.script ≡ self.old.script) }
     {
@@ -155,8 +170,13 @@ impl Processor {
         requires made { P.made port.old ≡ calls_by_now self.old }
         ensures ready { OnOk result (Ready self.new (number + 1)) }
         ensures made { OnOk result (P.made port.new ≡ calls_by_now self.new) }
-        ensures told { OnOk result ((before : ℕ) → before ≤ P.faults port.old → FaultsTold before self.old.entries (P.faults port.old) → FaultsTold before self.new.entries (P.faults port.new)) }
+        ensures told { OnOk result ((before : ℕ) → before ≤ P.faults port.old
+            → FaultsTold before self.old.entries (P.faults port.old)
+            → FaultsTold before self.new.entries (P.faults port.new)) }
         ensures faults { P.faults port.old ≤ P.faults port.new }
+        ensures never_fails { P.never_fails port.old → P.never_fails port.new }
+        ensures halted { OnErr result
+            (HaltedAt self.old.boot self.old.script (P.made port.new)) }
         ensures boot { OnOk result (self.new.boot ≡ self.old.boot) }
         ensures script { OnOk result (self.new.script ≡ self.old.script) }
     {
@@ -182,8 +202,13 @@ impl Processor {
         requires fine { memory_range_refusal start len ≡ None }
         ensures ready { OnOk result (Ready self.new (number + 1)) }
         ensures made { OnOk result (P.made port.new ≡ calls_by_now self.new) }
-        ensures told { OnOk result ((before : ℕ) → before ≤ P.faults port.old → FaultsTold before self.old.entries (P.faults port.old) → FaultsTold before self.new.entries (P.faults port.new)) }
+        ensures told { OnOk result ((before : ℕ) → before ≤ P.faults port.old
+            → FaultsTold before self.old.entries (P.faults port.old)
+            → FaultsTold before self.new.entries (P.faults port.new)) }
         ensures faults { P.faults port.old ≤ P.faults port.new }
+        ensures never_fails { P.never_fails port.old → P.never_fails port.new }
+        ensures halted { OnErr result
+            (HaltedAt self.old.boot self.old.script (P.made port.new)) }
         ensures boot { OnOk result (self.new.boot ≡ self.old.boot) }
         ensures script { OnOk result (self.new.script ≡ self.old.script) }
     {
@@ -200,7 +225,8 @@ impl Processor {
         requires fine { memory_range_refusal start len ≡ None }
         ensures ready { OnOk result (Ready self.new (number + 1)) }
         ensures quiet { OnOk result (calls_by_now self.new ≡ calls_by_now self.old) }
-        ensures no_fault { OnOk result (some_module self.new.entries ≡ some_module self.old.entries) }
+        ensures no_fault { OnOk result
+            (some_module self.new.entries ≡ some_module self.old.entries) }
         ensures boot { OnOk result (self.new.boot ≡ self.old.boot) }
         ensures script { OnOk result (self.new.script ≡ self.old.script) }
     {
@@ -221,10 +247,12 @@ impl Processor {
     fn refuse(&mut self, number: u32, refusal: Reply) -> Result<(), AllocError>
         requires ready { Ready self.old number }
         requires other { is_module (Some refusal) ≡ false }
-        requires refused { (c : CommandValue) × (slice_get self.old.script number ≡ Some c) × ((own : Own) → refusal_of self.old.boot own c ≡ Some refusal) }
+        requires refused { (c : CommandValue) × (slice_get self.old.script number ≡ Some c)
+            × ((own : Own) → refusal_of self.old.boot own c ≡ Some refusal) }
         ensures ready { OnOk result (Ready self.new (number + 1)) }
         ensures quiet { OnOk result (calls_by_now self.new ≡ calls_by_now self.old) }
-        ensures no_fault { OnOk result (some_module self.new.entries ≡ some_module self.old.entries) }
+        ensures no_fault { OnOk result
+            (some_module self.new.entries ≡ some_module self.old.entries) }
         ensures boot { OnOk result (self.new.boot ≡ self.old.boot) }
         ensures script { OnOk result (self.new.script ≡ self.old.script) }
     {
@@ -243,11 +271,16 @@ impl Processor {
         requires ready { Ready self.old number }
         requires made { P.made port.old ≡ calls_by_now self.old }
         requires more { number < length self.old.script }
-        requires first { All IsFirstCommand self.old.script }
+        requires ranged { All IsRanged self.old.script }
         ensures ready { OnOk result (Ready self.new (number + 1)) }
         ensures made { OnOk result (P.made port.new ≡ calls_by_now self.new) }
-        ensures told { OnOk result ((before : ℕ) → before ≤ P.faults port.old → FaultsTold before self.old.entries (P.faults port.old) → FaultsTold before self.new.entries (P.faults port.new)) }
+        ensures told { OnOk result ((before : ℕ) → before ≤ P.faults port.old
+            → FaultsTold before self.old.entries (P.faults port.old)
+            → FaultsTold before self.new.entries (P.faults port.new)) }
         ensures faults { P.faults port.old ≤ P.faults port.new }
+        ensures never_fails { P.never_fails port.old → P.never_fails port.new }
+        ensures halted { OnErr result
+            (HaltedAt self.old.boot self.old.script (P.made port.new)) }
         ensures boot { OnOk result (self.new.boot ≡ self.old.boot) }
         ensures script { OnOk result (self.new.script ≡ self.old.script) }
     {
@@ -273,7 +306,7 @@ pub(crate) enum Ranged {
 
 /// The command as one on a range of memory, which each command that can be run today is.
 fn range_of(command: &Command) -> Ranged
-    requires { IsFirstCommand command.now }
+    requires { IsRanged command.now }
     ensures { command.now ≡ as_command result }
 {
     match command {

@@ -1,22 +1,10 @@
 //! Room for the next step of the memory.
-ghost use Rattle.std.specs.Prelude.{◌≡◌, ◌+◌, ◌^◌, ◌<◌, IfSome, OnOk};
-ghost use Rattle.memory_core.specs.Steps.{last_stamp, unaccepted_count};
+ghost use Rattle.std.specs.Prelude.{◌≡◌, ◌^◌, ◌<◌, OnOk};
+ghost use Rattle.memory_core.specs.Steps.{last_stamp};
 
 use event_core::NoRoom;
-use guest_base::Units;
 use memory_core::Memory;
 use std::alloc::{AllocError, Global};
-
-/// How many of the units are unaccepted.
-pub(crate) fn unaccepted_of(memory: &Memory, units: Option<Units>) -> u64
-    requires { IfSome units (λ u. u.first + u.count < 2 ^ 64) }
-    ensures { result ≡ unaccepted_count memory.now.boot memory.now.entries units }
-{
-    match units {
-        Some(units) => memory.unaccepted_units(units),
-        None => 0,
-    }
-}
 
 /// Takes room for the next step, and for an acceptance over `units` units until it closes. Nothing else changes.
 pub(crate) fn take_room(alloc: Global, memory: &mut Memory, units: u64) -> Result<(), AllocError>

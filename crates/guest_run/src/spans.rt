@@ -1,5 +1,5 @@
 //! Spans of pages that are out for a claim.
-ghost use Rattle.std.specs.Prelude.{◌≡◌, ◌≢◌, None, ◌++◌, ◌^◌, ◌<◌, ◌≤◌, IfOk, IfSome};
+ghost use Rattle.std.specs.Prelude.{◌≡◌, ◌≢◌, None, ◌++◌, ◌^◌, ◌<◌, ◌≤◌, IfOk, IfSome, OnErr};
 ghost use Rattle.guest_base.specs.Counts.{Rose};
 ghost use Rattle.guest_base.specs.declared.memory.Units.{Units as UnitsValue};
 ghost use Rattle.event_core.specs.Acceptance.{stop_of};
@@ -31,7 +31,8 @@ pub(crate) fn units_of(boot: &Boot, pages: Pages) -> Units
 /// The run of units whose pages are in the span, where there is one.
 pub(crate) fn run_of(boot: &Boot, span: &Option<Span>) -> Option<Units>
     requires some { 0 < unit_pages boot.now }
-    requires whole { IfSome span.now (λ s. (units : UnitsValue) × (s.ticket.pages ≡ pages_of boot.now units)) }
+    requires whole { IfSome span.now (λ s.
+        (units : UnitsValue) × (s.ticket.pages ≡ pages_of boot.now units)) }
     ensures { IsRunOf boot.now span.now result }
 {
     match span {
@@ -47,12 +48,14 @@ pub(crate) fn accept_span<P: Port>(
     span: &mut Span,
     hosts: &Hosts,
 ) -> Result<(Calls, RunEnd), AllocError>
-    requires few { span.old.ticket.pages.count ≤ 2 ^ 28 }
     ensures accepts { IfOk result (λ r. Accepts hosts.now span.old span.new r.0) }
     ensures stop { IfOk result (λ r. stop_of r.0 ≡ stopped_at r.1) }
     ensures made { IfOk result (λ r. P.made port.new ≡ P.made port.old ++ r.0) }
-    ensures stopped { IfOk result (λ r. stopped_at r.1 ≢ None → Rose (P.faults port.old) (P.faults port.new)) }
+    ensures stopped { IfOk result (λ r.
+        stopped_at r.1 ≢ None → Rose (P.faults port.old) (P.faults port.new)) }
+    ensures unmade { OnErr result (P.made port.new ≡ P.made port.old) }
     ensures faults { P.faults port.old ≤ P.faults port.new }
+    ensures never_fails { P.never_fails port.old → P.never_fails port.new }
 {
     let most = most_calls(span.pages().count);
     port.reserve(alloc, most)?;
@@ -66,14 +69,4 @@ pub(crate) fn copy_of(alloc: Global, calls: &Calls) -> Result<Calls, AllocError>
     ensures { IfOk result (λ copy. copy ≡ calls.now) }
 {
     Ok(Items::from_vec(calls.as_slice().to_vec(alloc)?))
-}
-
-/// The page at which an acceptance stopped.
-pub(crate) fn stopped_page(end: RunEnd) -> Option<Page>
-    ensures { result ≡ stopped_at end }
-{
-    match end {
-        RunEnd::Whole => None,
-        RunEnd::Stopped(page) => Some(page),
-    }
 }

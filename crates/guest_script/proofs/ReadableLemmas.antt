@@ -298,7 +298,7 @@ words_keep : (number : ℕ) (script : List Command) (words : List (List ℕ)) �
 unfolding with_words
 words_keep number script [] h = h
 words_keep number script (first ∷ words) h =
-    unless (nat_le 2048 (length script)) fault.TooManyLines (followed_by (at_line number (command_of first words)) (with_command script)) ReadableScript (λ no.
+    unless (nat_le 2048 (length script)) fault.TooManyCommands (followed_by (at_line number (command_of first words)) (with_command script)) ReadableScript (λ no.
     then_holds (at_line number (command_of first words)) (with_command script) IsReadable ReadableScript (numbered number (command_of first words) IsReadable (at_keeps (verb_of first) words))
     (λ c is. command_keeps script c h (grind (arith, nat_tests, no)) is))
 

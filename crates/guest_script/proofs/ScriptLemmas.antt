@@ -31,5 +31,5 @@ pub line_fails : (f : ScriptFault) (number : ℕ) (script : List Command) (line 
     → ScriptFails f (with_lines number script all)
 line_fails fault.NoMemory number script line lines all split fails = tt
 line_fails (fault.Line n why) number script line lines all split fails = stop number script line lines all (fault.Line n why) split fails
-line_fails fault.TooManyLines number script line lines all split fails = stop number script line lines all fault.TooManyLines split fails
+line_fails fault.TooManyCommands number script line lines all split fails = stop number script line lines all fault.TooManyCommands split fails
 line_fails fault.TooManyBytes number script line lines all split fails = stop number script line lines all fault.TooManyBytes split fails

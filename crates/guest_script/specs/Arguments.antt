@@ -9,6 +9,8 @@ use Rattle.guest_base.specs.declared.transfer.Direction.{Direction}
 use Rattle.guest_base.specs.declared.transfer.Direction.TheVariants.{ToDevice, FromDevice, Both}
 use Rattle.guest_script.specs.declared.fault.Why.{Why}
 use Rattle.guest_script.specs.declared.fault.Why.TheVariants.{Word, Number, Hex, Arity}
+use Rattle.guest_base.specs.declared.limits.TheConstants.{MAX_ORDER}
+use Rattle.guest_script.specs.declared.hex_digits.TheConstants.{MAX_HEX_DIGITS}
 use Rattle.guest_script.specs.Number.{number_of}
 
 -- the ? of the logic: what follows, where there is a value
@@ -19,11 +21,17 @@ abbrev pub ◌>>=◌ : {A B : Type 0} → Result A Why → (A → Result B Why) 
 
 -- the name that a word is: 1 to 32 of the characters of a name
 abbrev pub name_of : List ℕ → Option (List ℕ)
-name_of word = if (nat_le 1 (length word) && nat_le (length word) 32) && list_all name_character word then Some word else None
+name_of word =
+    if (nat_le 1 (length word) && nat_le (length word) 32) && list_all name_character word
+    then Some word
+    else None
 
 -- the bytes that a word spells: 2 to 524,288 hexadecimal digits of either case, an even number of them, two for each byte
 abbrev pub hex_of : List ℕ → Option (List ℕ)
-hex_of word = if nat_le 1 (length word) && nat_le (length word) 524288 then result_ok (decode_of word) else None
+hex_of word =
+    if nat_le 1 (length word) && nat_le (length word) MAX_HEX_DIGITS
+    then result_ok (decode_of word)
+    else None
 
 -- a number up to a greatest one
 abbrev pub bounded : ℕ → Option ℕ → Option ℕ
@@ -37,7 +45,11 @@ mask_of (Some n) = if (n == 0) || (n == 4095) then Some n else None
 
 -- a direction
 abbrev pub direction_of : List ℕ → Option Direction
-direction_of word = if bytes_eq word (codes "to") then Some ToDevice else if bytes_eq word (codes "from") then Some FromDevice else if bytes_eq word (codes "both") then Some Both else None
+direction_of word =
+    if bytes_eq word (codes "to") then Some ToDevice
+    else if bytes_eq word (codes "from") then Some FromDevice
+    else if bytes_eq word (codes "both") then Some Both
+    else None
 
 -- the arguments, each with the fault of a word that is none
 unfoldable pub name_at : List ℕ → Result (List ℕ) Why
@@ -48,7 +60,7 @@ number_at word = ok_or (number_of word) Number
 
 -- an order is at most 10
 unfoldable pub order_at : List ℕ → Result ℕ Why
-order_at word = ok_or (bounded 10 (number_of word)) Number
+order_at word = ok_or (bounded MAX_ORDER (number_of word)) Number
 
 -- a byte is at most 255
 unfoldable pub byte_at : List ℕ → Result ℕ Why

@@ -1,4 +1,5 @@
 use Rattle.std.specs.Prelude.{ℕ, List, [], ◌∷◌, codes, if◌then◌else◌, Option, Some, None, option_map}
+use Rattle.std.specs.Option.{option_or}
 use Rattle.std.specs.Str.{bytes_eq}
 use Rattle.guest_script.specs.declared.verb.Verb.{Verb}
 use Rattle.guest_script.specs.declared.verb.Verb.TheVariants as verb
@@ -31,13 +32,8 @@ pool_words =
     (codes "map", pool.Map) ∷ (codes "syncdev", pool.SyncDev) ∷ (codes "synccpu", pool.SyncCpu) ∷ (codes "unmap", pool.Unmap)
     ∷ (codes "dread", pool.DRead) ∷ (codes "dwrite", pool.DWrite) ∷ (codes "hostread", pool.HostRead) ∷ (codes "hostwrite", pool.HostWrite) ∷ []
 
--- the first that is there
-abbrev pub or_else : {V : Type 0} → Option V → Option V → Option V
-or_else (Some v) other = Some v
-or_else None other = other
-
 -- what a command's first word asks
 unfoldable pub verb_of : List ℕ → Option Verb
 verb_of word =
-    or_else (option_map (λ v. verb.Memory v) (beside word memory_words))
-    (or_else (option_map (λ v. verb.Block v) (beside word block_words)) (option_map (λ v. verb.Pool v) (beside word pool_words)))
+    option_or (option_map (λ v. verb.Memory v) (beside word memory_words))
+    (option_or (option_map (λ v. verb.Block v) (beside word block_words)) (option_map (λ v. verb.Pool v) (beside word pool_words)))

@@ -12,7 +12,7 @@ use thiserror::Error;
 pub enum Why {
     /// A word is no command, no name, no direction or not `skip`.
     Word,
-    /// A word is no number, or one that is out of its range.
+    /// A word is no number, or one that is out of its range: an order above 10, a byte above 255, or a mask other than 0 and 4095.
     Number,
     /// A word isn't 2 to 524,288 hexadecimal digits, an even number of them.
     Hex,
@@ -27,24 +27,25 @@ pub enum Why {
 /// Why a line isn't read.
 #[derive(Clone, Copy, Debug, PartialEq, Eq)]
 pub(crate) enum LineFault {
+    /// The line has this fault.
     Why(Why),
-    /// Want of memory.
+    /// Out of memory.
     NoMemory,
 }
 
 /// Why a script isn't read: the first fault in the order of its lines.
 #[derive(Clone, Copy, Debug, PartialEq, Eq, Drop, Error)]
 pub enum ScriptFault {
-    /// A line, counted from 1, skipped ones too.
+    /// The line of this number, counted from 1, skipped ones too, has this fault.
     #[error("line {0}: {1:?}")]
     Line(u64, Why),
     /// There is a 2,049th command.
     #[error("too many lines")]
-    TooManyLines,
-    /// The commands name more than 4,194,304 bytes.
+    TooManyCommands,
+    /// The commands name more than 4,194,304 bytes together.
     #[error("too many bytes")]
     TooManyBytes,
-    /// Want of memory.
+    /// Out of memory.
     #[error("out of memory")]
     NoMemory,
 }

@@ -2,6 +2,7 @@
 ghost use Rattle.std.specs.Prelude.{◌≡◌, ◌+◌, ◌≤◌, ◌∷◌, length, sum_by, MatchResult, IfOk, OnOk, IfErr, Err};
 ghost use Rattle.std.specs.Str.{is_utf8};
 ghost use Rattle.event_core.specs.ReadableScript.{bytes_named, ReadableScript};
+ghost use Rattle.guest_base.specs.declared.limits.TheConstants.{MAX_NAMED_BYTES};
 ghost use Rattle.guest_script.specs.Words.{texts};
 ghost use Rattle.guest_script.specs.Answers.{LineFails};
 ghost use Rattle.guest_script.specs.Script.{is_comment, line_words, with_words, with_line, script_of, ScriptFails, ScriptGives, fault_at};
@@ -44,11 +45,13 @@ fn read_line(
     named: &mut u64,
 ) -> Result<(), ScriptFault>
     requires sum { named.old ≡ sum_by bytes_named commands.old.items }
-    requires few { named.old ≤ 4194304 }
-    ensures ok { OnOk result (with_line number commands.old.items line.now ≡ Ok commands.new.items) }
+    requires few { named.old ≤ MAX_NAMED_BYTES }
+    ensures ok { OnOk result
+        (with_line number commands.old.items line.now ≡ Ok commands.new.items) }
     ensures sum { OnOk result (named.new ≡ sum_by bytes_named commands.new.items) }
-    ensures few { OnOk result (named.new ≤ 4194304) }
-    ensures err { IfErr result (λ fault. ScriptFails fault (with_line number commands.old.items line.now)) }
+    ensures few { OnOk result (named.new ≤ MAX_NAMED_BYTES) }
+    ensures err { IfErr result (λ fault.
+        ScriptFails fault (with_line number commands.old.items line.now)) }
 {
     match line_words(alloc, line) {
         Ok(words) => add_command(alloc, number, words.as_slice(), commands, named),
@@ -58,7 +61,9 @@ fn read_line(
 
 #[tactic(auto, unfolding(crate::specs::Script::line_words))]
 fn line_words(alloc: Global, line: &[u8]) -> Result<Vec<&[u8]>, LineFault>
-    ensures { MatchResult result (λ words. line_words line.now ≡ Ok (texts words.items)) (λ fault. LineFails fault (line_words line.now)) }
+    ensures { MatchResult result
+        (λ words. line_words line.now ≡ Ok (texts words.items))
+        (λ fault. LineFails fault (line_words line.now)) }
 {
     if line.len() as u64 > MAX_LINE_BYTES {
         return Err(LineFault::Why(Why::TooLong));
@@ -97,17 +102,19 @@ fn add_command(
     named: &mut u64,
 ) -> Result<(), ScriptFault>
     requires sum { named.old ≡ sum_by bytes_named commands.old.items }
-    requires few { named.old ≤ 4194304 }
-    ensures ok { OnOk result (with_words number commands.old.items (texts words.now) ≡ Ok commands.new.items) }
+    requires few { named.old ≤ MAX_NAMED_BYTES }
+    ensures ok { OnOk result
+        (with_words number commands.old.items (texts words.now) ≡ Ok commands.new.items) }
     ensures sum { OnOk result (named.new ≡ sum_by bytes_named commands.new.items) }
-    ensures few { OnOk result (named.new ≤ 4194304) }
-    ensures err { IfErr result (λ fault. ScriptFails fault (with_words number commands.old.items (texts words.now))) }
+    ensures few { OnOk result (named.new ≤ MAX_NAMED_BYTES) }
+    ensures err { IfErr result (λ fault.
+        ScriptFails fault (with_words number commands.old.items (texts words.now))) }
 {
     let [first, words @ ..] = words else {
         return Ok(());
     };
     if commands.len() as u64 >= MAX_COMMANDS {
-        return Err(ScriptFault::TooManyLines);
+        return Err(ScriptFault::TooManyCommands);
     }
     let command = match read_command(alloc, first, words) {
         Ok(command) => command,

@@ -5,6 +5,8 @@ use Rattle.std.specs.Str.{bytes_eq}
 use Rattle.std.specs.declared.alloc.Global.{Global}
 use Rattle.guest_base.specs.Requests.{raised_to_power}
 use Rattle.guest_base.specs.Search.{any_such}
+use Rattle.guest_base.specs.declared.limits.TheConstants.{MAX_SLOTS}
+use Rattle.guest_words.specs.declared.numbers.TheConstants.{USUAL_SLOTS}
 use Rattle.guest_script.specs.Number.{number_of}
 use Rattle.guest_script.specs.Arguments.{bounded}
 use Rattle.guest_words.specs.declared.place.Choice.{Choice}
@@ -104,10 +106,10 @@ told_by place (word ∷ words) = do
   part ← part_of place word
   option_map (joined part.1) (told_by part.0 words)
 
--- the slots of the pool: 0 to 131,072, and 32,768 where none are told (swiotlb.c has 64 MiB)
+-- the slots of the pool: 0 to 131,072, and 32,768 where the words give none (swiotlb.c has 64 MiB)
 abbrev pub slots_of : List (List ℕ) → Option ℕ
-slots_of [] = Some 32768
-slots_of (value ∷ []) = bounded 131072 (number_of value)
+slots_of [] = Some USUAL_SLOTS
+slots_of (value ∷ []) = bounded MAX_SLOTS (number_of value)
 slots_of (value ∷ other ∷ values) = None
 
 -- a number of areas: a power of two from 1 to 64
@@ -118,7 +120,7 @@ abbrev pub areas_in : Option ℕ → Option ℕ
 areas_in None = None
 areas_in (Some count) = if is_areas count then Some count else None
 
--- the areas of the pool; where none are told, the number of scripts, raised to a power of two
+-- the areas of the pool; where the words give none, the number of scripts, raised to a power of two
 -- (after swiotlb.c)
 abbrev pub areas_of : ℕ → List (List ℕ) → Option ℕ
 areas_of scripts [] = Some (raised_to_power scripts)

@@ -6,7 +6,7 @@ ghost use Rattle.guest_words.specs.Steps.{listed};
 use guest_base::limits::MAX_SLOTS;
 use guest_script::read_number;
 
-/// The slots where no word tells them.
+/// The slots where the words give none.
 const USUAL_SLOTS: u32 = 32_768;
 
 /// The slots of the pool, 0 to 131,072. None where the value is no such number.

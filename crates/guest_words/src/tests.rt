@@ -31,12 +31,12 @@ fn the_three_files(rt: HostRuntime) -> Result<(), Fail> {
 
 #[test]
 fn options_anywhere(rt: HostRuntime) -> Result<(), Fail> {
-    let words = words_of(rt.alloc(), "turns --table=T=1 --areas 4 O --slots 0 A s")?;
+    let words = words_of(rt.alloc(), "turns --table=T=1 --areas 4 O --slots 0 - s")?;
     let names = read_words(words.as_slice()).ok_or("refused")?;
     assert_eq!(rt; names.order, "O");
     assert_eq!(rt; names.areas, 4);
     assert_eq!(rt; names.table.unwrap_or("none"), "T=1");
-    assert_eq!(rt; names.map, "A");
+    assert_eq!(rt; names.map, "-");
     assert_eq!(rt; names.script, "s");
     Ok(())
 }
@@ -48,6 +48,7 @@ fn in_both_spellings(rt: HostRuntime) -> Result<(), Fail> {
     assert!(rt; is_read(alloc, "turns --slots 0x0 O A s")?);
     assert!(rt; is_read(alloc, "turns --slots=000 --areas=0x40 O A s")?);
     assert!(rt; is_read(alloc, "turns O A --table T s --slots 0")?);
+    assert!(rt; is_read(alloc, "turns --table= --slots=0 O A s")?);
     Ok(())
 }
 
@@ -65,14 +66,6 @@ fn behind_the_options(rt: HostRuntime) -> Result<(), Fail> {
 }
 
 #[test]
-fn a_dash_alone(rt: HostRuntime) -> Result<(), Fail> {
-    let words = words_of(rt.alloc(), "turns O --slots 0 - s")?;
-    let names = read_words(words.as_slice()).ok_or("refused")?;
-    assert_eq!(rt; names.map, "-");
-    Ok(())
-}
-
-#[test]
 fn empty_words(rt: HostRuntime) -> Result<(), Fail> {
     let alloc = rt.alloc();
     let mut words = words_of(alloc, "turns --slots=0 A s --table")?;
@@ -82,14 +75,6 @@ fn empty_words(rt: HostRuntime) -> Result<(), Fail> {
     assert_eq!(rt; names.order, "A");
     assert_eq!(rt; names.map, "s");
     assert_eq!(rt; names.script, "");
-    assert_eq!(rt; names.table.unwrap_or("none"), "");
-    Ok(())
-}
-
-#[test]
-fn an_empty_table(rt: HostRuntime) -> Result<(), Fail> {
-    let words = words_of(rt.alloc(), "turns --table= --slots=0 O A s")?;
-    let names = read_words(words.as_slice()).ok_or("refused")?;
     assert_eq!(rt; names.table.unwrap_or("none"), "");
     Ok(())
 }

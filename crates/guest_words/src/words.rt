@@ -23,8 +23,8 @@ pub struct Names<'a> {
 
 /// What the words name. None exactly where they aren't in the grammar: `turns`, and then ORDER MAP SCRIPT with
 /// the options `--slots N`, `--areas N` and `--table FILE` at any place behind `turns`, each at most once, and spelt
-/// also `--slots=N`. `--` ends the options, and a value begins with no dash. N of `--slots` has to be told and to be 0;
-/// N of `--areas` is a power of two from 1 to 64, and 1 where none is told. Takes no memory.
+/// also `--slots=N`. `--` ends the options, and a value begins with no dash. N of `--slots` has to be given and to be 0;
+/// N of `--areas` is a power of two from 1 to 64, and 1 where none is given. Takes no memory.
 pub fn read_words(words: &[String]) -> Option<Names<'_>>
     ensures named { named result ≡ named_by (bytes_of_words words.now) }
     ensures power { IfSome result (λ names. is_areas names.areas ≡ true) }

@@ -9,7 +9,8 @@ use guest_base::limits::SEGMENT_SLOTS;
 /// Counts all slots as free.
 pub fn count_all(counts: &mut [u32])
     requires { length counts.old < 2 ^ 32 }
-    ensures { (k : ℕ) → k < length counts.new → slice_index counts.new k ≡ 128 - k % 128 }
+    ensures { (k : ℕ) → k < length counts.new
+        → slice_index counts.new k ≡ SEGMENT_SLOTS - k % SEGMENT_SLOTS }
 {
     for k in 0..counts.len() {
         counts[k] = SEGMENT_SLOTS - k as u32 % SEGMENT_SLOTS;
@@ -31,11 +32,12 @@ pub fn zero_run(counts: &mut [u32], at: usize, need: usize)
 /// Counts the slots of a run as free, from its last one down.
 pub fn count_run(counts: &mut [u32], at: usize, need: usize)
     requires inside { at + need ≤ length counts.old }
-    requires segments { length counts.old % 128 ≡ 0 }
+    requires segments { length counts.old % SEGMENT_SLOTS ≡ 0 }
     requires counted { IsCounted counts.old }
     requires used { (k : ℕ) → InRange at need k → zero_at counts.old k ≡ true }
     ensures counted { IsCountedBut counts.new at }
-    ensures zeros { (k : ℕ) → zero_at counts.new k ≡ (not (in_range at need k) && zero_at counts.old k) }
+    ensures zeros { (k : ℕ) → zero_at counts.new k
+        ≡ (not (in_range at need k) && zero_at counts.old k) }
 {
     let mut k = at + need;
     while k > at {
@@ -52,7 +54,7 @@ pub fn recount_before(counts: &mut [u32], at: usize)
     ensures zeros { (k : ℕ) → zero_at counts.new k ≡ zero_at counts.old k }
 {
     let mut k = at;
-    while k % 128 != 0 && counts[k - 1] != 0 {
+    while k % SEGMENT_SLOTS as usize != 0 && counts[k - 1] != 0 {
         counts[k - 1] = counts[k] + 1;
         k -= 1;
     }
@@ -61,11 +63,11 @@ pub fn recount_before(counts: &mut [u32], at: usize)
 /// The count of the next slot, or 0 at a segment's end.
 fn free_after(counts: &[u32], at: usize) -> u32
     requires inside { at < length counts.now }
-    requires segments { length counts.now % 128 ≡ 0 }
-    ensures end { (at + 1) % 128 ≡ 0 → result ≡ 0 }
-    ensures next { (at + 1) % 128 ≢ 0 → result ≡ slice_index counts.now (at + 1) }
+    requires segments { length counts.now % SEGMENT_SLOTS ≡ 0 }
+    ensures end { (at + 1) % SEGMENT_SLOTS ≡ 0 → result ≡ 0 }
+    ensures next { (at + 1) % SEGMENT_SLOTS ≢ 0 → result ≡ slice_index counts.now (at + 1) }
 {
-    if (at + 1).is_multiple_of(128) {
+    if (at + 1).is_multiple_of(SEGMENT_SLOTS as usize) {
         0
     } else {
         counts[at + 1]

@@ -12,6 +12,7 @@ mod tests;
 
 use counts::{count_all, count_run, recount_before, zero_run};
 use guest_base::Align;
+use guest_base::limits::SEGMENT_SLOTS;
 use search::first_fitting;
 use std::alloc::{AllocError, Global};
 use std::marker::Model;
@@ -32,7 +33,10 @@ impl Model for Slots {
 
     ghost Value = { SlotUse };
 
-    ghost view = { λ s. record { flags = map (λ count. count == 0) s.counts.items; hint = s.hint } };
+    ghost view = { λ s. record {
+      flags = map (λ count. count == 0) s.counts.items;
+      hint = s.hint;
+    } };
 
     ghost invariant = { λ s. IsKept s.counts.items s.hint };
 }
@@ -43,7 +47,7 @@ impl Slots {
     /// An area of `count` free slots, a positive multiple of 128.
     pub fn new(alloc: Global, count: u32) -> Result<Slots, AllocError>
         requires some { 0 < count }
-        requires segments { count % 128 ≡ 0 }
+        requires segments { count % SEGMENT_SLOTS ≡ 0 }
         ensures count { IfOk result (λ s. slot_count s ≡ count) }
         ensures hint { IfOk result (λ s. s.hint ≡ 0) }
         ensures free { IfOk result (λ s. (k : ℕ) → k < count → is_used s k ≡ false) }
@@ -53,12 +57,13 @@ impl Slots {
         Ok(Slots { counts, hint: 0 })
     }
 
-    /// The first place at which `need` free slots stand in one segment and begin as `align` asks, 1 to 128 slots. The places
+    /// The first place at which `need` free slots, 1 to 128, stand in one segment and begin as `align` asks. The places
     /// are tried in the order hint, .., last, 0, .., hint - 1. None exactly where no place fits; the hint stays.
     pub fn fits(&self, need: u32, align: Align) -> Option<u32>
         requires some { 0 < need }
-        requires few { need ≤ 128 }
-        ensures { result ≡ choose (is_used self.now) (slot_count self.now) self.now.hint need align }
+        requires few { need ≤ SEGMENT_SLOTS }
+        ensures { result
+            ≡ choose (is_used self.now) (slot_count self.now) self.now.hint need align }
     {
         let counts = self.counts.as_slice();
         let last = first_fitting(counts, self.hint, counts.len() as u32, need, align);
@@ -92,7 +97,8 @@ impl Slots {
         requires inside { at + need ≤ slot_count self.old }
         requires used { (k : ℕ) → InRange at need k → is_used self.old k ≡ true }
         ensures count { slot_count self.new ≡ slot_count self.old }
-        ensures used { (k : ℕ) → is_used self.new k ≡ (not (in_range at need k) && is_used self.old k) }
+        ensures used { (k : ℕ) → is_used self.new k
+            ≡ (not (in_range at need k) && is_used self.old k) }
         ensures hint { self.new.hint ≡ self.old.hint }
     {
         let first = at as usize;

@@ -5,17 +5,20 @@ ghost use Rattle.guest_base.specs.Slots.{fits_at, meets_align};
 ghost use Rattle.io_slots.specs.FreeCounts.{IsCounted, zero_at};
 
 use guest_base::Align;
+use guest_base::limits::SEGMENT_SLOTS;
 
 /// The first place from `from` on and below `to` at which a run fits.
 pub fn first_fitting(counts: &[u32], from: u32, to: u32, need: u32, align: Align) -> Option<u32>
     requires inside { to ≤ length counts.now }
     requires order { from ≤ to }
     requires few { length counts.now < 2 ^ 32 }
-    requires segments { length counts.now % 128 ≡ 0 }
+    requires segments { length counts.now % SEGMENT_SLOTS ≡ 0 }
     requires counted { IsCounted counts.now }
     requires some { 0 < need }
-    requires small { need ≤ 128 }
-    ensures { result ≡ first_such (fits_at (zero_at counts.now) (length counts.now) need align) from (to - from) }
+    requires small { need ≤ SEGMENT_SLOTS }
+    ensures { result
+        ≡ first_such (fits_at (zero_at counts.now) (length counts.now) need align)
+        from (to - from) }
 {
     let mut at = from;
     while at < to {

@@ -1,9 +1,8 @@
-use Rattle.std.proofs.Common.{◌≡◌, ℕ, ◌+◌, ◌^◌, ◌<◌, ◌≤◌, Option, None, Some, List, [], ◌∷◌, ◌++◌, refl, sym, ◌∙◌, ap, subst, max, length}
+use Rattle.std.proofs.Common.{◌≡◌, ℕ, ◌+◌, ◌^◌, ◌<◌, Option, None, Some, List, [], ◌∷◌, ◌++◌, refl, sym, ◌∙◌, ap, subst, arith, max, length}
 use Rattle.std.specs.Prelude.{slice_set, map}
 use Rattle.std.specs.Option.{ForSome, option_and_then}
 use Rattle.guest_base.specs.Search.{count_such}
 use Rattle.guest_base.proofs.SearchLemmas.{count_such_same}
-use Rattle.guest_base.specs.declared.memory.Pages.{Pages}
 use Rattle.guest_base.specs.declared.memory.Units.{Units}
 use Rattle.event_core.specs.declared.boot.Boot.{Boot}
 use Rattle.event_core.specs.declared.entry.Entry.{Entry}
@@ -11,17 +10,20 @@ use Rattle.event_core.specs.declared.entry.Turn.{Turn}
 use Rattle.event_core.specs.declared.event.Event.{Event}
 use Rattle.event_core.specs.declared.event.Event.TheVariants.{Claim}
 use Rattle.event_core.specs.declared.module_call.ModuleCall.{ModuleCall}
+use Rattle.event_core.specs.Acceptance.{stop_of}
 use Rattle.event_core.specs.Calls.{calls_of}
-use Rattle.event_core.specs.MemoryRows.{page_state, pages_first, pages_count, run_of_claim}
+use Rattle.event_core.specs.Claims.{Claimed, in_the_way}
+use Rattle.event_core.specs.MemoryRows.{page_state, run_of_claim, next_run}
 use Rattle.event_core.specs.Units.{bit_after, guarded_units, first_run}
 use Rattle.page_module.specs.Spans.{Taken}
 use Rattle.event_core.specs.Table.{Bits}
-use Rattle.accepting_ranges.specs.Claims.{MeetsNone}
-use Rattle.memory_core.specs.Bitmaps.{bits_in, guarded_by, both_or_none, SameBits, MeetsNoneOf}
+use Rattle.accepting_ranges.specs.Claims.{kept_of, MeetsNone}
+use Rattle.memory_core.specs.OpenClaims.{units_of, MeetsNoOther}
+use Rattle.memory_core.specs.Bitmaps.{bits_in, guarded_by, both_or_none, SameBits}
 use Rattle.memory_core.specs.Value.{MemoryValue, Handed}
 use Rattle.memory_core.specs.Steps.{last_stamp, bare_entry, Appends, HasStates, IsOutFor, unaccepted_count}
-use Rattle.memory_core.specs.StandsFor.{kept_by, handed_for}
-use Rattle.memory_core.specs.Answers.{OthersKeep}
+use Rattle.memory_core.specs.StandsFor.{handed_for}
+use Rattle.memory_core.specs.Answers.{OthersKeep, Opens, GoesOn, Closes}
 use Rattle.memory_core.specs.declared.claims.OpenClaim.{OpenClaim}
 use Rattle.memory_core.proofs.BeginLemmas.{FirstRun, first-run}
 use Rattle.memory_core.proofs.BitsLemmas.{guarded-same, run-same}
@@ -46,41 +48,47 @@ both-is None R pair is = cc
 both-is (Some units) None pair is = cc
 both-is (Some units) (Some run) pair is = let same : (units, run) ≡ pair = cc in (ap (λ (p : Units × Units). Some p.0) same, ap (λ (p : Units × Units). Some p.1) same)
 
-pub record ClaimedFacts (boot : Boot) (entries : List Entry) (bits : Option Bits) (ranges : List (Option Units)) (guarded : Option Units) (room : ℕ) (units run : Units) : Type 0 where
+pub record ClaimedFacts (boot : Boot) (entries : List Entry) (bits : Option Bits) (claims : List (Option OpenClaim)) (guarded : Option Units) (room : ℕ) (units run : Units) : Type 0 where
   pub units_are : guarded ≡ Some units
   pub run_is : run_of_claim boot entries guarded ≡ Some run
   pub first : FirstRun (bits_in bits) units run
-  pub clear : MeetsNone ranges units
+  pub clear : MeetsNone units_of claims units
   pub end : units.first + units.count < 2 ^ 64
   pub need : count_such (bits_in bits) units.first units.count < room
+  pub fits : run.count < room
 
 units-end : (U : Option Units) (units : Units) → U ≡ Some units → ForSome U (λ u. u.first + u.count < 2 ^ 64) → units.first + units.count < 2 ^ 64
 units-end U units is end = let P : Option Units → Type 0 = λ o. ForSome o (λ (u : Units). u.first + u.count < 2 ^ 64) in let here : ForSome (Some units) (λ (u : Units). u.first + u.count < 2 ^ 64) = subst P is end in here units refl
 
-pub claimed-facts : (boot : Boot) (entries : List Entry) (claims : List (Option OpenClaim)) (room : ℕ) (v : MemoryValue) (bits : Option Bits) (ranges : List (Option Units)) (start len : ℕ) (U R : Option Units) (pair : Units × Units)
+pub claimed-facts : (boot : Boot) (entries : List Entry) (claims : List (Option OpenClaim)) (room : ℕ) (v : MemoryValue) (bits : Option Bits) (start len : ℕ) (U R : Option Units) (pair : Units × Units)
     → seen boot entries claims room ≡ v → SameBits boot bits → ((unit : ℕ) → bits_in bits unit ≡ bit_after boot (calls_of boot entries) unit)
     → U ≡ guarded_by bits start len → ForSome U (λ u. u.first + u.count < 2 ^ 64)
     → R ≡ option_and_then (λ (u : Units). first_run (bits_in bits) u.first (u.first + u.count)) U
-    → both_or_none U R ≡ Some pair → MeetsNoneOf ranges U
+    → both_or_none U R ≡ Some pair → MeetsNoOther claims U
     → unaccepted_count v.boot v.entries (guarded_units v.boot start len) < v.room
-    → ClaimedFacts boot entries bits ranges (guarded_units boot start len) room pair.0 pair.1
-claimed-facts boot entries claims room v bits ranges start len U R pair view same set is_units end is_run both clear need =
+    → ClaimedFacts boot entries bits claims (guarded_units boot start len) room pair.0 pair.1
+claimed-facts boot entries claims room v bits start len U R pair view same set is_units end is_run both clear need =
     let two = both-is U R pair both in
     let guarded : guarded_units boot start len ≡ U = sym (is_units ∙ guarded-same boot bits start len same) in
     let run : run_of_claim boot entries U ≡ Some pair.1 = sym (run-same boot entries (bits_in bits) U set) ∙ sym is_run ∙ two.1 in
     let found : first_run (bits_in bits) pair.0.first (pair.0.first + pair.0.count) ≡ Some pair.1 = ap (option_and_then (λ (u : Units). first_run (bits_in bits) u.first (u.first + u.count))) (sym two.0) ∙ sym is_run ∙ two.1 in
     let M : MemoryValue → Type 0 = λ m. unaccepted_count m.boot m.entries (guarded_units m.boot start len) < m.room in
     let N : Option Units → Type 0 = λ u. unaccepted_count boot entries u < room in
-    let C : Option Units → Type 0 = MeetsNoneOf ranges in
+    let C : Option Units → Type 0 = MeetsNoOther claims in
     let K : ℕ → Type 0 = λ n. n < room in
+    let first = first-run (bits_in bits) pair.0 pair.1 found in
+    let counts = first.counts in
+    let all : count_such (bits_in bits) pair.0.first pair.0.count < room =
+    subst K (sym (count_such_same (bits_in bits) (bit_after boot (calls_of boot entries)) pair.0.first pair.0.count (record { same = λ unit low high. set unit })))
+    (subst N (guarded ∙ two.0) (subst M (sym view) need)) in
     record {
       units_are = guarded ∙ two.0;
       run_is = ap (run_of_claim boot entries) guarded ∙ run;
-      first = first-run (bits_in bits) pair.0 pair.1 found;
+      first = first;
       clear = subst C two.0 clear;
       end = units-end U pair.0 two.0 end;
-      need = subst K (sym (count_such_same (bits_in bits) (bit_after boot (calls_of boot entries)) pair.0.first pair.0.count (record { same = λ unit low high. set unit })))
-          (subst N (guarded ∙ two.0) (subst M (sym view) need));
+      need = all;
+      fits = omega (arith, counts, all);
     }
 
 no-run : (boot : Boot) (entries : List Entry) (U R : Option Units) → both_or_none U R ≡ None → R ≡ run_of_claim boot entries U → run_of_claim boot entries U ≡ None
@@ -106,15 +114,52 @@ claim-is boot entries bits start len U R same set is_units is_run =
 -- what is out with the others stays, where no module call was made
 pub others-kept : (boot : Boot) (entries entries' : List Entry) (claims claims' : List (Option OpenClaim)) (room room' cpu : ℕ) (k : Option OpenClaim) → calls_of boot entries' ≡ calls_of boot entries → claims' ≡ slice_set claims cpu k → OthersKeep (seen boot entries claims room) (seen boot entries' claims' room') cpu
 others-kept boot entries entries' claims claims' room room' cpu k calls is = record {
-  handed = λ other differ. handed-is claims' other ∙ ap (λ cs. handed_for (kept_by cs other)) is ∙ ap handed_for (kept-other claims cpu other k differ) ∙ sym (handed-is claims other);
+  handed = λ other differ. handed-is claims' other ∙ ap (λ cs. handed_for (kept_of cs other)) is ∙ ap handed_for (kept-other claims cpu other k differ) ∙ sym (handed-is claims other);
   states = λ other claim page differ has inside. ap (λ cs. page_state boot cs page) calls;
 }
 
 -- what is out with the processor is the span of the run
-pub out-for : (boot : Boot) (entries : List Entry) (claims claims' : List (Option OpenClaim)) (room cpu : ℕ) (run : Units) (span : Taken) (o : OpenClaim) (calls : List ModuleCall) → cpu < length claims → claims' ≡ slice_set claims cpu (Some o) → o.ticket ≡ span.ticket → calls_of boot entries ≡ calls → HasStates boot calls run span → pages_first boot run + pages_count boot run ≤ 2 ^ 28 → IsOutFor (seen boot entries claims' room) cpu run span
-out-for boot entries claims claims' room cpu run span o calls inside is ticket calls_are has low = record {
+abbrev pub out-for : (boot : Boot) (entries : List Entry) (claims claims' : List (Option OpenClaim)) (room cpu : ℕ) (run : Units) (span : Taken) (o : OpenClaim) (calls : List ModuleCall) → cpu < length claims → claims' ≡ slice_set claims cpu (Some o) → o.ticket ≡ span.ticket → calls_of boot entries ≡ calls → HasStates boot calls run span → IsOutFor (seen boot entries claims' room) cpu run span
+out-for boot entries claims claims' room cpu run span o calls inside is ticket calls_are has = record {
   room = o.room;
-  handed = handed-is claims' cpu ∙ ap (λ cs. handed_for (kept_by cs cpu)) is ∙ ap handed_for (kept-same claims cpu (Some o) inside) ∙ ap (λ t. Some (let h : Handed = record { ticket = t; room = o.room } in h)) ticket;
+  handed = handed-is claims' cpu ∙ ap (λ cs. handed_for (kept_of cs cpu)) is ∙ ap handed_for (kept-same claims cpu (Some o) inside) ∙ ap (λ t. Some (let h : Handed = record { ticket = t; room = o.room } in h)) ticket;
   has = (let P : List ModuleCall → Type 0 = λ cs. HasStates boot cs run span in subst P (sym calls_are) has);
-  low = (let P : Pages → Type 0 = λ pages. pages.first + pages.count ≤ 2 ^ 28 in subst P (sym has.pages) low);
+}
+
+-- the claim is begun: the span of its first run is out, and the room for its end is kept
+pub opens-of : (boot : Boot) (entries entries' : List Entry) (claims claims' : List (Option OpenClaim)) (room cpu : ℕ) (U : Option Units) (run : Units) (span : Taken) (o : OpenClaim) (calls : List ModuleCall)
+    → in_the_way boot entries U ≡ None → run_of_claim boot entries U ≡ Some run → o.room + run.count + 1 ≡ room
+    → cpu < length claims → claims' ≡ slice_set claims cpu (Some o) → o.ticket ≡ span.ticket → calls_of boot entries' ≡ calls → HasStates boot calls run span
+    → Opens (seen boot entries claims room) (seen boot entries' claims' 0) cpu U span
+opens-of boot entries entries' claims claims' room cpu U run span o calls free first kept inside is ticket calls_are has = record {
+  run = run;
+  free = free;
+  first = first;
+  out = out-for boot entries' claims claims' 0 cpu run span o calls inside is ticket calls_are has;
+  kept = kept;
+  left = refl;
+}
+
+-- the claim goes on: the span of its next run is out
+pub goes-on-of : (boot : Boot) (entries entries' : List Entry) (claims claims' : List (Option OpenClaim)) (room cpu : ℕ) (claim : Claimed) (now : List ModuleCall) (run : Units) (span : Taken) (was o : OpenClaim) (calls : List ModuleCall)
+    → next_run boot claim (stop_of now) ≡ Some run → kept_of claims cpu ≡ Some was → o.room + run.count ≡ was.room
+    → cpu < length claims → claims' ≡ slice_set claims cpu (Some o) → o.ticket ≡ span.ticket → calls_of boot entries' ≡ calls → HasStates boot calls run span
+    → GoesOn (seen boot entries claims room) (seen boot entries' claims' 0) cpu claim now span
+goes-on-of boot entries entries' claims claims' room cpu claim now run span was o calls next has_was kept inside is ticket calls_are has = record {
+  run = run;
+  next = next;
+  out = out-for boot entries' claims claims' 0 cpu run span o calls inside is ticket calls_are has;
+  kept = λ handed handed_is.
+      let made : Handed = record { ticket = was.ticket; room = was.room } in
+      let same : Some made ≡ Some handed = sym (handed-is claims cpu ∙ ap handed_for has_was) ∙ handed_is in
+      let one : made ≡ handed = cc in
+      kept ∙ ap (λ (h : Handed). h.room) one;
+  left = refl;
+}
+
+-- the claim is closed
+pub closes-of : (boot : Boot) (entries entries' : List Entry) (claims claims' : List (Option OpenClaim)) (room cpu : ℕ) → cpu < length claims → claims' ≡ slice_set claims cpu None → Closes (seen boot entries claims room) (seen boot entries' claims' room) cpu
+closes-of boot entries entries' claims claims' room cpu inside is = record {
+  none = handed-is claims' cpu ∙ ap (λ cs. handed_for (kept_of cs cpu)) is ∙ ap handed_for (kept-same claims cpu None inside);
+  room = refl;
 }

@@ -1,7 +1,8 @@
 use Rattle.std.proofs.Common.{◌≡◌, ℕ, ◌+◌, ◌-◌, ◌*◌, ◌/◌, ◌^◌, ◌<◌, ◌≤◌, Bool, true, false, ◌&&◌, Option, None, Some, List, refl, sym, ◌∙◌, ap, arith, cond}
 use Rattle.std.specs.Prelude.{nat_lt, not, max, min}
-use Rattle.std.specs.Option.{option_and_then}
-use Rattle.std.proofs.Math.Nat.{mul-le-mul_right}
+use Rattle.std.specs.Option.{option_and_then, option_map_or}
+use Rattle.std.proofs.Math.Nat.{mul-le-mul_right, mul-le-mul_left}
+use Rattle.guest_base.proofs.RangeLemmas.{in_range-intro, lt-of}
 use Rattle.guest_base.specs.Ranges.{in_range}
 use Rattle.guest_base.specs.Search.{any_such, count_such}
 use Rattle.guest_base.proofs.SearchLemmas.{any_such_same, count_such_same}
@@ -15,17 +16,14 @@ use Rattle.event_core.specs.Units.{bit_of, bit_after, unit_first, unit_pages, un
 use Rattle.event_core.specs.Table.{Bits, IsTable}
 use Rattle.unaccepted_bitmap.proofs.TableFacts.{table_facts}
 use Rattle.memory_core.specs.Bitmaps.{bits_in, guarded_by, any_in, SameBits, PagesOf, ClearedIn, unit_first_of, unit_pages_of}
-use Rattle.memory_core.specs.Steps.{pages_of}
-use Rattle.memory_core.proofs.UnitsLemmas.{in_range-intro, first_run-same}
+use Rattle.memory_core.specs.Steps.{pages_of, unaccepted_count}
+use Rattle.memory_core.proofs.UnitsLemmas.{first_run-same}
 
 -- ---- the bitmap that is kept, over the boot's
 
 first-both : (b c : Bool) → (b && c) ≡ true → b ≡ true
 first-both true c h = refl
 first-both false c h = cc
-
-lt-of : (a b : ℕ) → nat_lt a b ≡ true → a < b
-lt-of a b h = grind arith
 
 -- the last unit of a run of set bits lies in the bitmap
 pub run-inside : (b : Bits) (run : Units) → 0 < run.count → ((unit : ℕ) → in_range run.first run.count unit ≡ true → bit_of b.bits unit ≡ true) → run.first + run.count ≤ unit_count b.bits
@@ -54,6 +52,16 @@ pages-low b units is inside =
     let small = facts.small in
     let end : b.base / 4096 + units.first * size + units.count * size < 2 ^ 29 = omega (arith, all, under, parts, below, small) in
     record { starts = omega (arith, end); lasts = omega (arith, end); ends = end }
+
+-- units of a bitmap end far below 2^64
+pub units-low : (b : Bits) (units : Units) → IsTable b → units.first + units.count ≤ unit_count b.bits → units.first + units.count < 2 ^ 64
+units-low b units is inside =
+    let facts = table_facts b is in
+    let some : 1 ≤ b.unit = (let s = facts.some in omega (arith, s)) in
+    let more = mul-le-mul_left (unit_count b.bits) some in
+    let below = facts.below in
+    let small = facts.small in
+    omega (arith, more, below, small, inside)
 
 pub set-here : (b : Bits) (bits : Option Bits) (run : Units) → bits ≡ Some b → ((unit : ℕ) → in_range run.first run.count unit ≡ true → bits_in bits unit ≡ true) → (unit : ℕ) → in_range run.first run.count unit ≡ true → bit_of b.bits unit ≡ true
 set-here b bits run is all unit inside = sym (ap (λ o. bits_in o unit) is) ∙ all unit inside
@@ -138,3 +146,9 @@ pub any-same : (boot : Boot) (entries : List Entry) (set : ℕ → Bool) (units 
 unfolding some_unaccepted
 any-same boot entries set None bits = refl
 any-same boot entries set (Some u) bits = any_such_same set (bit_after boot (calls_of boot entries)) u.first u.count (record { same = λ unit low high. bits unit })
+
+-- as many units are unaccepted by the kept bitmap as by the definition
+pub count-same : (boot : Boot) (entries : List Entry) (test : ℕ → Bool) (units : Option Units) → ((unit : ℕ) → test unit ≡ bit_after boot (calls_of boot entries) unit)
+    → option_map_or (λ (u : Units). count_such test u.first u.count) units 0 ≡ unaccepted_count boot entries units
+count-same boot entries test None same = refl
+count-same boot entries test (Some u) same = count_such_same test (bit_after boot (calls_of boot entries)) u.first u.count (record { same = λ unit low high. same unit })

@@ -1,6 +1,7 @@
-use Rattle.std.proofs.Common.{◌≡◌, ◌≢◌, ◌⊎◌, ℕ, ◌+◌, ◌-◌, ◌*◌, ◌/◌, ◌<◌, ◌≤◌, Bool, true, false, ◌&&◌, None, refl, sym, ◌∙◌, ap, subst, inl, inr, arith, cond, length, ◌==◌, eqb-true, eq-eqb}
+use Rattle.std.proofs.Common.{◌≡◌, ◌≢◌, ◌⊎◌, ℕ, ◌+◌, ◌-◌, ◌*◌, ◌/◌, ◌≤◌, Bool, true, false, ◌&&◌, None, refl, sym, ◌∙◌, ap, subst, inl, inr, arith, cond, length, ◌==◌, eqb-true, eq-eqb}
 use Rattle.std.specs.Prelude.{not, nat_lt}
 use Rattle.std.proofs.lemmas.Bool.{cases_Bool, cases_lt}
+use Rattle.guest_base.proofs.RangeLemmas.{in_range-intro}
 use Rattle.guest_base.specs.Ranges.{in_range}
 use Rattle.guest_base.specs.Search.{any_such, count_such}
 use Rattle.guest_base.proofs.SearchLemmas.{any_such_is, any_such_none, first_such_none, count_such-append, count_such-pass, count_such-fail, count_such-zero}
@@ -13,9 +14,6 @@ use Rattle.accept_sizes.proofs.Going.{is_pending-Some, is_pending-not}
 use Rattle.event_core.specs.Table.{Bits}
 use Rattle.unaccepted_bitmap.specs.BitmapValue.{ClearsBits}
 use Rattle.memory_core.specs.Bitmaps.{ClearedBy, unit_first_of, unit_pages_of}
-
-in_range-intro : (first count n : ℕ) → first ≤ n → n < first + count → in_range first count n ≡ true
-in_range-intro first count n low high = grind arith
 
 -- whether a page is pending among some, by the first that is
 pub pending-first : (span : Taken) (first count : ℕ) (run : Pages) → IsFirstPending span first run → nat_lt (run.first - first) count ≡ any_such (pending_of span) first count

@@ -5,7 +5,7 @@ use Rattle.guest_base.proofs.SearchLemmas.{first_such_at, first_such_past, first
 use Rattle.event_core.specs.Units.{first_run, run_at}
 use Rattle.memory_core.proofs.ClearLemmas.{count-more}
 
--- so many of the units before one are set
+-- this many of the units before one are set
 pub record Counted (test : ℕ → Bool) (first next count : ℕ) : Type 0 where
   pub is : count ≡ count_such test first (next - first)
   pub few : count ≤ next - first

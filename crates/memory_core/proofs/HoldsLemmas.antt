@@ -1,4 +1,5 @@
 use Rattle.std.proofs.Common.{◌≡◌, ◌≢◌, ℕ, ◌+◌, ◌<◌, ◌≤◌, Bool, true, false, Option, None, Some, List, ◌++◌, refl, sym, ◌∙◌, ap, subst, inl, inr, arith, cond}
+use Rattle.guest_base.proofs.RangeLemmas.{in_range-elim}
 use Rattle.guest_base.specs.Ranges.{in_range}
 use Rattle.guest_base.specs.Search.{any_such}
 use Rattle.guest_base.specs.declared.memory.Pages.{Pages}
@@ -20,7 +21,7 @@ use Rattle.memory_core.specs.Steps.{HasStates, pages_of}
 use Rattle.memory_core.specs.StandsFor.{HoldsFor, OpenStands, ClaimStands}
 use Rattle.memory_core.specs.declared.claims.OpenClaim.{OpenClaim}
 use Rattle.memory_core.proofs.RunLemmas.{Stands, OneRun, run-stands}
-use Rattle.memory_core.proofs.UnitsLemmas.{in_range-elim, not-met}
+use Rattle.memory_core.proofs.UnitsLemmas.{not-met, runs-apart}
 use Rattle.memory_core.proofs.ClearLemmas.{nat-cases}
 
 -- ---- claims, kept and open
@@ -95,6 +96,10 @@ choose false x y z h = h refl
 
 -- ---- a claim is opened, or goes on: the pages of its run are taken out
 
+none-either : (b : Bool) (o : Option PageState) → o ≡ None → cond b None o ≡ None
+none-either true o is = refl
+none-either false o is = is
+
 pub holds-open : (boot : Boot) (calls : List ModuleCall) (claims claims' : ℕ → Option Claimed) (runs runs' : List PageRun) (tickets tickets' : List Ticket) (bit : ℕ → Bool) (kept kept' : ℕ → Option OpenClaim) (cpu : ℕ) (o : OpenClaim) (claim : Claimed)
     → HoldsFor boot calls claims runs tickets bit kept → claims cpu ≡ None → OthersSame cpu claims claims' kept kept' → claims' cpu ≡ Some claim → kept' cpu ≡ Some o
     → ((page : ℕ) → state_in runs' page ≡ cond (in_range (pages_first boot claim.run) (pages_count boot claim.run) page) None (state_in runs page))
@@ -114,6 +119,13 @@ holds-open boot calls claims claims' runs runs' tickets tickets' bit kept kept' 
         | inl same ↦ absurd (no_both (claims cpu) b free (ap claims (sym same) ∙ is))
         | inr differ ↦ inside d b (others.claimed d differ ∙ is)
       ]);
+  away = λ d b page is at. elim (nat-cases d cpu) [
+    | inl same ↦
+        (let b_is : Some claim ≡ Some b = sym now_claim ∙ ap claims' (sym same) ∙ is in
+        let b_same : claim ≡ b = cc in
+        rest page ∙ ap (λ x. cond x None (state_in runs page)) (ap (λ (x : Claimed). in_range (pages_first boot x.run) (pages_count boot x.run) page) b_same ∙ at))
+    | inr differ ↦ rest page ∙ none-either (in_range (pages_first boot claim.run) (pages_count boot claim.run) page) (state_in runs page) (holds.away d b page (sym (others.claimed d differ) ∙ is) at)
+  ];
   open_claims = λ d. elim (nat-cases d cpu) [
     | inl same ↦ stands-open boot bit tickets' (kept' d) (claims' d) o claim (ap kept' same ∙ now_kept) (ap claims' same ∙ now_claim) opened
     | inr differ ↦ claim-moves boot bit bit tickets tickets' (kept d) (kept' d) (claims d) (claims' d) (others.keeps d differ) (others.claimed d differ) (λ b is unit low high set. set) (λ k is was. more k.ticket was) (holds.open_claims d)
@@ -172,6 +184,14 @@ other-unit claim other unit low within apart from below =
     let out = not-met other.units claim.units unit apart from below in
     grind (arith, out, low, within)
 
+-- and its pages none of the run's
+pub others-page : (boot : Boot) (other claim : Claimed) (page : ℕ) → other.units.first ≤ other.run.first → units_end other.run ≤ units_end other.units → claim.units.first ≤ claim.run.first → units_end claim.run ≤ units_end claim.units
+    → units_meet other.units claim.units ≡ false → in_range (pages_first boot other.run) (pages_count boot other.run) page ≡ true → in_range (pages_first boot claim.run) (pages_count boot claim.run) page ≡ false
+others-page boot other claim page low within first end apart inside =
+    runs-apart boot other.run claim.run page
+    (λ unit in_run. let at = in_range-elim other.run.first other.run.count unit in_run in other-unit claim other unit first end apart (omega (arith, low, at.0)) (omega (arith, within, at.1)))
+    inside
+
 pub holds-close : (boot : Boot) (calls now : List ModuleCall) (claims claims' : ℕ → Option Claimed) (runs runs' : List PageRun) (tickets tickets' : List Ticket) (bit bit' : ℕ → Bool) (kept kept' : ℕ → Option OpenClaim) (cpu : ℕ) (o : OpenClaim) (claim : Claimed) (taken span : Taken)
     → HoldsFor boot calls claims runs tickets bit kept → OpenStands boot bit tickets o claim → claims cpu ≡ Some claim → OthersSame cpu claims claims' kept kept' → claims' cpu ≡ None → kept' cpu ≡ None
     → Returns boot calls now claim.run taken span runs runs' bit bit'
@@ -196,6 +216,15 @@ holds-close boot calls now claims claims' runs runs' tickets tickets' bit bit' k
             | inr differ ↦ inside d b (others.claimed d differ ∙ is)
           ]))
           ∙ stands.states page;
+      away = λ d b page is at. elim (nat-cases d cpu) [
+        | inl same ↦ absurd (no_both (claims' cpu) b gone (ap claims' (sym same) ∙ is))
+        | inr differ ↦
+            (let was_b = sym (others.claimed d differ) ∙ is in
+            let theirs = open-kept boot bit tickets (kept d) (claims d) b was_b (holds.open_claims d) in
+            let out = others-page boot b claim page theirs.2.low theirs.2.within opened.low opened.within (holds.apart d cpu b claim differ was_b was) at in
+            returns.back page ∙ ap (λ (p : Pages). cond (in_range p.first p.count page) (state_in span.runs page) (state_in runs page)) first
+            ∙ ap (λ x. cond x (state_in span.runs page) (state_in runs page)) out ∙ holds.away d b page was_b at)
+      ];
       open_claims = λ d. elim (nat-cases d cpu) [
         | inl same ↦ stands-none boot bit' tickets' (kept' d) (claims' d) (ap kept' same ∙ unkept) (ap claims' same ∙ gone)
         | inr differ ↦

@@ -1,10 +1,10 @@
-use Rattle.std.proofs.Common.{◌≡◌, ◌≢◌, ℕ, zero, suc, ◌+◌, ◌-◌, ◌*◌, ◌<◌, ◌≤◌, Bool, true, false, Option, None, Some, List, [], ◌∷◌, refl, sym, ◌∙◌, ap, subst, inl, inr, arith, cond, length, max, min}
-use Rattle.std.specs.Prelude.{nat_lt, slice_set, slice_index_or, map, Vec}
+use Rattle.std.proofs.Common.{◌≡◌, ◌≢◌, ℕ, ◌+◌, ◌-◌, ◌*◌, ◌<◌, ◌≤◌, Bool, true, false, Option, None, Some, List, refl, sym, ◌∙◌, ap, subst, inl, inr, arith, cond, length, max, min}
+use Rattle.std.specs.Prelude.{slice_set, slice_index_or, map, Vec}
 use Rattle.std.specs.declared.alloc.Global.{Global}
-use Rattle.std.specs.Option.{option_map}
 use Rattle.std.proofs.Math.ListN.{get_or-map}
 use Rattle.std.proofs.lemmas.Bool.{cases_Bool}
 use Rattle.std.proofs.lemmas.List.{get_or-set_same, get_or-set_other}
+use Rattle.guest_base.proofs.RangeLemmas.{in_range-elim, lt-of}
 use Rattle.guest_base.specs.Ranges.{in_range}
 use Rattle.guest_base.proofs.SearchLemmas.{first_such_none, first_such_is}
 use Rattle.guest_base.specs.declared.memory.Pages.{Pages}
@@ -21,19 +21,18 @@ use Rattle.page_module.specs.States.{state_in}
 use Rattle.page_module.specs.Tables.{Table, run_count}
 use Rattle.page_module.proofs.CopyLemmas.{run_count-few}
 use Rattle.event_core.specs.Table.{Bits}
-use Rattle.accepting_ranges.specs.Claims.{range_of, Meet, MeetsNone}
-use Rattle.memory_core.specs.Bitmaps.{bits_in, MeetsNoneOf, IsFirstMet}
-use Rattle.memory_core.specs.Steps.{HasStates, pages_of}
-use Rattle.memory_core.specs.StandsFor.{StandsFor, IsIn, kept_by, pieces_for, handed_for}
+use Rattle.accepting_ranges.specs.Claims.{kept_of, Meet, MeetsNone}
+use Rattle.memory_core.specs.OpenClaims.{units_of, MeetsNoOther, IsFirstMet}
+use Rattle.memory_core.specs.Bitmaps.{bits_in}
+use Rattle.memory_core.specs.Steps.{HasStates, pages_of, IsInTable}
+use Rattle.memory_core.specs.StandsFor.{StandsFor, pieces_for, handed_for}
 use Rattle.memory_core.specs.declared.claims.OpenClaim.{OpenClaim}
+use Rattle.memory_core.proofs.ClearLemmas.{nat-cases}
 use Rattle.memory_core.proofs.HoldsLemmas.{open-kept, kept-open, other-unit}
-use Rattle.memory_core.proofs.UnitsLemmas.{in_range-elim, runs-apart}
+use Rattle.memory_core.proofs.UnitsLemmas.{runs-apart}
 use Rattle.memory_core.proofs.StepLemmas.{fewer}
 
--- ---- claimed ranges and open claims
-
-lt-of : (a b : ℕ) → nat_lt a b ≡ true → a < b
-lt-of a b h = grind arith
+-- ---- kept claims and open ones
 
 pub apart-of : (a b : Units) → ¬ Meet a b → units_meet a b ≡ false
 apart-of a b apart =
@@ -50,54 +49,37 @@ met-of a b (unit, in_a, in_b) = grind (arith, in_a.0, in_a.1, in_b.0, in_b.1)
 pub meets-swap : (a b : Units) → ¬ Meet a b → ¬ Meet b a
 meets-swap a b apart (unit, in_b, in_a) = apart (unit, in_a, in_b)
 
--- who has an item has a place
-pub item-inside : {A : Type 0} (xs : List (Option A)) (i : ℕ) (x : A) → slice_index_or xs i None ≡ Some x → i < length xs
-item-inside [] zero x h = cc
-item-inside [] (suc i) x h = cc
-item-inside (y ∷ xs) zero x h = omega arith
-item-inside (y ∷ xs) (suc i) x h = omega (arith, item-inside xs i x h)
-
 no_none : {A : Type 0} (o : Option A) (x : A) → o ≡ None → o ≡ Some x → ⊥
 no_none o x none some = let no : None ≡ Some x = sym none ∙ some in cc
 
-mapped-some : (k : Option OpenClaim) (units : Units) → option_map (λ (c : OpenClaim). c.units) k ≡ Some units → (o : OpenClaim) × (k ≡ Some o) × (o.units ≡ units)
-mapped-some None units h = cc
-mapped-some (Some o) units h = (o, refl, (let same : Some o.units ≡ Some units = h in cc))
-
-module _ (boot : Boot) (entries : Vec Entry Global) (last : ℕ) (table : Table) (bits : Option Bits) (ranges : List (Option Units)) (claims : List (Option OpenClaim)) (pages kept room : ℕ) (s : StandsFor boot entries last table bits ranges claims pages kept room) where
-  pub open-range : (cpu : ℕ) (claim : Claimed) → claim_of boot entries.items cpu ≡ Some claim → range_of ranges cpu ≡ Some claim.units
-  open-range cpu claim is =
-      let found = open-kept boot (bits_in bits) table.out (kept_by claims cpu) (claim_of boot entries.items cpu) claim is (s.holds.open_claims cpu) in
-      s.ranges_are cpu ∙ ap (option_map (λ (c : OpenClaim). c.units)) found.1 ∙ ap (λ u. Some u) found.2.units
-
+module _ (boot : Boot) (entries : Vec Entry Global) (last : ℕ) (table : Table) (bits : Option Bits) (claims : List (Option OpenClaim)) (pages kept room : ℕ) (s : StandsFor boot entries last table bits claims pages kept room) where
   pub open-low : (cpu : ℕ) (claim : Claimed) → claim_of boot entries.items cpu ≡ Some claim → cpu < boot.cpus
   open-low cpu claim is =
-      let found = open-kept boot (bits_in bits) table.out (kept_by claims cpu) (claim_of boot entries.items cpu) claim is (s.holds.open_claims cpu) in
-      let low = item-inside claims cpu found.0 found.1 in
-      omega (arith, low, s.places)
+      let found = open-kept boot (bits_in bits) table.out (kept_of claims cpu) (claim_of boot entries.items cpu) claim is (s.holds.open_claims cpu) in
+      s.cpus cpu found.0 found.1
 
-  pub range-open : (cpu : ℕ) (units : Units) → range_of ranges cpu ≡ Some units → (claim : Claimed) × (claim_of boot entries.items cpu ≡ Some claim) × (claim.units ≡ units)
-  range-open cpu units is =
-      let kept_one = mapped-some (kept_by claims cpu) units (sym (s.ranges_are cpu) ∙ is) in
-      let found = kept-open boot (bits_in bits) table.out (kept_by claims cpu) (claim_of boot entries.items cpu) kept_one.0 kept_one.1 (s.holds.open_claims cpu) in
-      (found.0, found.1, sym found.2.units ∙ kept_one.2)
+  -- units that meet no kept claim meet no open one
+  before-of : (units : Units) (cpu : ℕ) (claim : Claimed) → ((earlier : OpenClaim) → kept_of claims cpu ≡ Some earlier → ¬ Meet earlier.units units) → claim_of boot entries.items cpu ≡ Some claim → ¬ Meet claim.units units
+  before-of units cpu claim none is =
+      let found = open-kept boot (bits_in bits) table.out (kept_of claims cpu) (claim_of boot entries.items cpu) claim is (s.holds.open_claims cpu) in
+      let P : Units → Type 0 = λ u. ¬ Meet u units in
+      subst P found.2.units (none found.0 found.1)
 
-  -- a range that meets no claimed one meets no open claim
-  pub clear-of : (units : Units) → MeetsNone ranges units → (cpu : ℕ) (claim : Claimed) → claim_of boot entries.items cpu ≡ Some claim → ¬ Meet claim.units units
-  clear-of units none cpu claim is = none cpu claim.units (open-range cpu claim is)
+  pub clear-of : (units : Units) → MeetsNone units_of claims units → (cpu : ℕ) (claim : Claimed) → claim_of boot entries.items cpu ≡ Some claim → ¬ Meet claim.units units
+  clear-of units none cpu claim is = before-of units cpu claim (none cpu) is
 
-  meets-none : (units : Units) (cpu : ℕ) (claim : Option Claimed) → claim_of boot entries.items cpu ≡ claim → MeetsNone ranges units → claim_meets units claim ≡ false
+  meets-none : (units : Units) (cpu : ℕ) (claim : Option Claimed) → claim_of boot entries.items cpu ≡ claim → MeetsNone units_of claims units → claim_meets units claim ≡ false
   meets-none units cpu None is none = refl
   meets-none units cpu (Some claim) is none = apart-of claim.units units (clear-of units none cpu claim is)
 
-  pub way-none : (units : Option Units) → MeetsNoneOf ranges units → in_the_way boot entries.items units ≡ None
+  pub way-none : (units : Option Units) → MeetsNoOther claims units → in_the_way boot entries.items units ≡ None
   unfolding in_the_way
   way-none None none = refl
   way-none (Some units) none = first_such_none (λ cpu. claim_meets units (claim_of boot entries.items cpu)) 0 boot.cpus (record { fails = λ n low high. meets-none units n (claim_of boot entries.items n) refl none })
 
-  meets-before : (units : Units) (cpu : ℕ) (claim : Option Claimed) → claim_of boot entries.items cpu ≡ claim → ((earlier : Units) → range_of ranges cpu ≡ Some earlier → ¬ Meet earlier units) → claim_meets units claim ≡ false
+  meets-before : (units : Units) (cpu : ℕ) (claim : Option Claimed) → claim_of boot entries.items cpu ≡ claim → ((earlier : OpenClaim) → kept_of claims cpu ≡ Some earlier → ¬ Meet earlier.units units) → claim_meets units claim ≡ false
   meets-before units cpu None is none = refl
-  meets-before units cpu (Some claim) is none = apart-of claim.units units (none claim.units (open-range cpu claim is))
+  meets-before units cpu (Some claim) is none = apart-of claim.units units (before-of units cpu claim none is)
 
   pub record MetBy (units : Option Units) (met : Units) : Type 0 where
     pub cpu : ℕ
@@ -106,12 +88,13 @@ module _ (boot : Boot) (entries : Vec Entry Global) (last : ℕ) (table : Table)
     pub claimed : claim_of boot entries.items cpu ≡ Some claim
     pub same : claim.units ≡ met
 
-  pub way-some : (units : Option Units) (met : Units) → IsFirstMet ranges units met → MetBy units met
+  pub way-some : (units : Option Units) (met : Units) → IsFirstMet claims units met → MetBy units met
   unfolding in_the_way
   way-some None met first = absurd first
   way-some (Some units) met first =
-      let found = range-open first.cpu met first.held in
-      let meets : Meet found.0.units units = subst (λ u. Meet u units) (sym found.2) first.meets in
+      let found = kept-open boot (bits_in bits) table.out (kept_of claims first.cpu) (claim_of boot entries.items first.cpu) first.claim first.held (s.holds.open_claims first.cpu) in
+      let same : found.0.units ≡ met = sym found.2.units ∙ first.same in
+      let meets : Meet found.0.units units = (let P : Units → Type 0 = λ u. Meet u units in subst P (sym same) first.meets) in
       record {
         cpu = first.cpu;
         claim = found.0;
@@ -122,7 +105,7 @@ module _ (boot : Boot) (entries : Vec Entry Global) (last : ℕ) (table : Table)
           before = λ n low high. meets-before units n (claim_of boot entries.items n) refl (λ earlier. first.before n earlier high);
         });
         claimed = found.1;
-        same = found.2;
+        same = same;
       }
 
 -- ---- room
@@ -146,7 +129,7 @@ runs-few boot run runs pages is = let few = run_count-few (state_in runs) pages 
 
 pub run-in : (boot : Boot) (claims : ℕ → Option Claimed) (claim : Claimed) (page : ℕ) → claim.units.first ≤ claim.run.first → units_end claim.run ≤ units_end claim.units
     → ((d : ℕ) (b : Claimed) → claims d ≡ Some b → (b.units.first ≤ b.run.first) × (units_end b.run ≤ units_end b.units) × (units_meet claim.units b.units ≡ false))
-    → in_range (pages_first boot claim.run) (pages_count boot claim.run) page ≡ true → IsIn boot claims page
+    → in_range (pages_first boot claim.run) (pages_count boot claim.run) page ≡ true → IsInTable boot claims page
 run-in boot claims claim page low within others inside d b is =
     let other = others d b is in
     runs-apart boot claim.run b.run page
@@ -161,8 +144,8 @@ if-in false x y z h = refl
 pub has-states : (boot : Boot) (calls : List ModuleCall) (claims : ℕ → Option Claimed) (run : Units) (pages : Pages) (runs : List PageRun) (span : Taken)
     → pages ≡ pages_of boot run → span.ticket.pages ≡ pages
     → ((page : ℕ) → state_in span.runs page ≡ cond (in_range pages.first pages.count page) (state_in runs page) None)
-    → ((page : ℕ) → in_range (pages_first boot run) (pages_count boot run) page ≡ true → IsIn boot claims page)
-    → ((page : ℕ) → IsIn boot claims page → state_in runs page ≡ page_state boot calls page)
+    → ((page : ℕ) → in_range (pages_first boot run) (pages_count boot run) page ≡ true → IsInTable boot claims page)
+    → ((page : ℕ) → IsInTable boot claims page → state_in runs page ≡ page_state boot calls page)
     → HasStates boot calls run span
 has-states boot calls claims run pages runs span is taken states here holds = record {
   pages = taken ∙ is;
@@ -173,11 +156,23 @@ has-states boot calls claims run pages runs span is taken states here holds = re
 
 -- ---- what is kept for processors
 
-pub kept-same : (claims : List (Option OpenClaim)) (cpu : ℕ) (k : Option OpenClaim) → cpu < length claims → kept_by (slice_set claims cpu k) cpu ≡ k
+pub kept-same : (claims : List (Option OpenClaim)) (cpu : ℕ) (k : Option OpenClaim) → cpu < length claims → kept_of (slice_set claims cpu k) cpu ≡ k
 kept-same claims cpu k low = get_or-set_same claims cpu k None low
 
-pub kept-other : (claims : List (Option OpenClaim)) (cpu other : ℕ) (k : Option OpenClaim) → other ≢ cpu → kept_by (slice_set claims cpu k) other ≡ kept_by claims other
+pub kept-other : (claims : List (Option OpenClaim)) (cpu other : ℕ) (k : Option OpenClaim) → other ≢ cpu → kept_of (slice_set claims cpu k) other ≡ kept_of claims other
 kept-other claims cpu other k differ = get_or-set_other claims cpu other k None differ
 
-pub handed-is : (claims : List (Option OpenClaim)) (cpu : ℕ) → slice_index_or (map handed_for claims) cpu None ≡ handed_for (kept_by claims cpu)
+-- whoever has a claim is one of the processors, before and after a place was set
+pub cpus-set : (claims claims' : List (Option OpenClaim)) (cpu end : ℕ) (k : Option OpenClaim) → claims' ≡ slice_set claims cpu k → cpu < length claims → ((claim : OpenClaim) → k ≡ Some claim → cpu < end)
+    → ((other : ℕ) (claim : OpenClaim) → kept_of claims other ≡ Some claim → other < end)
+    → (other : ℕ) (claim : OpenClaim) → kept_of claims' other ≡ Some claim → other < end
+cpus-set claims claims' cpu end k is low mine were other claim has =
+    elim (nat-cases other cpu) [
+      | inl same ↦
+          (let low_cpu = mine claim (sym (kept-same claims cpu k low) ∙ ap (λ cs. kept_of cs cpu) (sym is) ∙ ap (kept_of claims') (sym same) ∙ has) in
+          omega (arith, low_cpu, same))
+      | inr differ ↦ were other claim (sym (kept-other claims cpu other k differ) ∙ ap (λ cs. kept_of cs other) (sym is) ∙ has)
+    ]
+
+pub handed-is : (claims : List (Option OpenClaim)) (cpu : ℕ) → slice_index_or (map handed_for claims) cpu None ≡ handed_for (kept_of claims cpu)
 handed-is claims cpu = get_or-map handed_for claims cpu None

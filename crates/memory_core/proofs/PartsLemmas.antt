@@ -1,44 +1,44 @@
-use Rattle.std.proofs.Common.{◌≡◌, ℕ, zero, suc, ◌+◌, ◌*◌, ◌^◌, ◌<◌, ◌≤◌, Bool, true, false, Option, None, Some, List, [], ◌∷◌, ◌++◌, refl, sym, ◌∙◌, ap, subst, arith, length, append-nil, eqb-true}
-use Rattle.std.specs.Prelude.{sum_by, slice_index_or, map, ◌/◌, ◌==◌, nat_lt, Vec}
+use Rattle.std.proofs.Common.{◌≡◌, ℕ, zero, suc, ◌*◌, ◌^◌, ◌≤◌, Bool, true, false, Option, None, Some, List, [], ◌∷◌, refl, sym, ◌∙◌, ap, subst, arith, length, append-nil}
+use Rattle.std.specs.Prelude.{sum_by, slice_index_or, replicate, map, ◌/◌, ◌%◌, ◌==◌, nat_lt, Vec}
 use Rattle.std.specs.declared.alloc.Global.{Global}
 use Rattle.std.specs.List.{AllByRecursion}
-use Rattle.std.specs.Option.{option_map}
-use Rattle.std.proofs.Math.Nat.{pow-le-pow_right}
-use Rattle.std.proofs.lemmas.List.{length_push}
 use Rattle.std.proofs.lemmas.List.Sums.{sum_by-cons}
-use Rattle.std.proofs.lemmas.Nat.{pow_pos}
+use Rattle.std.proofs.Math.Nat.{mul-mod_left}
 use Rattle.guest_base.specs.declared.memory.HostRun.{HostRun}
 use Rattle.guest_base.specs.declared.memory.PageState.TheVariants.{Pending}
-use Rattle.guest_base.specs.declared.memory.Units.{Units}
-use Rattle.guest_base.proofs.SearchLemmas.{any_such-true}
+use Rattle.guest_base.proofs.SearchLemmas.{any_such-true, any_such_is}
 use Rattle.event_core.specs.declared.boot.Boot.{Boot}
 use Rattle.event_core.specs.declared.boot.Descriptor.{Descriptor}
 use Rattle.event_core.specs.declared.entry.Entry.{Entry}
 use Rattle.event_core.specs.declared.module_call.ModuleCall.{ModuleCall}
-use Rattle.event_core.specs.Boot.{BootRight}
+use Rattle.event_core.specs.Boot.{BootRight, Uncalled}
 use Rattle.event_core.specs.Calls.{calls_of, SoundCalls}
-use Rattle.event_core.specs.Claims.{claim_of}
-use Rattle.event_core.specs.Given.{FitsGiven, unit_by}
+use Rattle.event_core.specs.Claims.{Claimed, claim_of}
+use Rattle.event_core.specs.Given.{FitsGiven, unit_by, base_by}
 use Rattle.event_core.specs.Map.{MapRules}
 use Rattle.event_core.specs.MemoryRows.{page_state}
 use Rattle.event_core.specs.Runs.{state_in as first_state_of}
+use Rattle.event_core.specs.Stub.{default_unit, least_start, unaccepted}
 use Rattle.event_core.specs.Table.{Bits, is_unit}
 use Rattle.event_core.specs.Units.{bit_of, bit_after, is_marked, unit_count, unit_first, unit_pages}
-use Rattle.event_core.proofs.BootFacts.{TakesNone, set-pending, ram-low, boot-marks, boot-takes-none}
+use Rattle.event_core.proofs.BootFacts.{unit-size, IsSize, TakesNone, set-pending, ram-low, boot-marks, boot-takes-none}
 use Rattle.page_module.specs.States.{state_in}
-use Rattle.page_module.specs.Tables.{Table}
+use Rattle.page_module.specs.Tables.{Table, is_out}
 use Rattle.page_module.specs.declared.ticket.Ticket.{Ticket}
-use Rattle.accepting_ranges.specs.Claims.{range_of}
+use Rattle.accepting_ranges.specs.Claims.{kept_of}
+use Rattle.memory_core.specs.Answers.{GivesTable, NoneOpen}
+use Rattle.memory_core.specs.Value.{Handed, MemoryValue}
+use Rattle.memory_core.proofs.BegunLemmas.{seen}
 use Rattle.memory_core.specs.Bitmaps.{bits_in, BitsAfter}
 use Rattle.memory_core.specs.Booted.{IsBooted, UnitsAreRam}
-use Rattle.memory_core.specs.Steps.{last_stamp}
-use Rattle.memory_core.specs.StandsFor.{StandsFor, HoldsFor, kept_by, spans_of, reports_of, handed_for}
+use Rattle.memory_core.specs.Steps.{last_stamp, IsInTable}
+use Rattle.memory_core.specs.StandsFor.{StandsFor, HoldsFor, ClaimStands, spans_of, reports_of, handed_for}
 use Rattle.memory_core.specs.declared.claims.OpenClaim.{OpenClaim}
-use Rattle.memory_core.proofs.HoldsLemmas.{stands-none}
+use Rattle.memory_core.proofs.HoldsLemmas.{stands-none, none-kept}
 use Rattle.memory_core.proofs.OpenLemmas.{handed-is}
 use Rattle.memory_core.proofs.RunLemmas.{bit-less}
 
-sum-none : (f : Option OpenClaim → ℕ) (claims : List (Option OpenClaim)) → f None ≡ 0 → ((cpu : ℕ) → kept_by claims cpu ≡ None) → sum_by f claims ≡ 0
+sum-none : (f : Option OpenClaim → ℕ) (claims : List (Option OpenClaim)) → f None ≡ 0 → ((cpu : ℕ) → kept_of claims cpu ≡ None) → sum_by f claims ≡ 0
 sum-none f [] zero_at none = refl
 sum-none f (k ∷ claims) zero_at none =
     let first : f k ≡ 0 = ap f (none 0) ∙ zero_at in
@@ -46,38 +46,34 @@ sum-none f (k ∷ claims) zero_at none =
     sum_by-cons f k claims ∙ omega (arith, first, rest)
 
 -- where nothing is kept nothing is out
-pub no-spans : (claims : List (Option OpenClaim)) → ((cpu : ℕ) → kept_by claims cpu ≡ None) → sum_by spans_of claims ≡ 0
+pub no-spans : (claims : List (Option OpenClaim)) → ((cpu : ℕ) → kept_of claims cpu ≡ None) → sum_by spans_of claims ≡ 0
 no-spans claims none = sum-none spans_of claims refl none
 
 pub empty : {A : Type 0} (xs : List A) → length xs ≡ 0 → xs ≡ []
 empty [] h = refl
 empty (x ∷ xs) h = absurd (omega (arith, h))
 
--- so many places with nothing kept
-pub record NothingKept (claims : List (Option OpenClaim)) (count : ℕ) : Type 0 where
-  pub places : length claims ≡ count
-  pub none : (cpu : ℕ) → kept_by claims cpu ≡ None
+-- no claim is kept in empty places
+pub none-in : (count cpu : ℕ) → kept_of (let places : List (Option OpenClaim) = replicate count None in places) cpu ≡ None
+none-in zero zero = refl
+none-in zero (suc cpu) = refl
+none-in (suc count) zero = refl
+none-in (suc count) (suc cpu) = none-in count cpu
 
-none-in : (cpu : ℕ) → kept_by [] cpu ≡ None
-none-in zero = refl
-none-in (suc cpu) = refl
+pub none-at-first : (claims : List (Option OpenClaim)) → claims ≡ replicate 64 None → (cpu : ℕ) → kept_of claims cpu ≡ None
+none-at-first claims is cpu = ap (λ cs. kept_of cs cpu) is ∙ none-in 64 cpu
 
-pub nothing-start : (claims : List (Option OpenClaim)) → claims ≡ [] → NothingKept claims 0
-nothing-start claims is = subst (λ cs. NothingKept cs 0) (sym is) (record { places = refl; none = none-in })
+pub new-out : (claims : List (Option OpenClaim)) → claims ≡ replicate 64 None → (cpu : ℕ) → slice_index_or (map handed_for claims) cpu None ≡ None
+new-out claims is cpu = handed-is claims cpu ∙ ap handed_for (none-at-first claims is cpu)
 
-none-push : (claims : List (Option OpenClaim)) → ((cpu : ℕ) → kept_by claims cpu ≡ None) → (cpu : ℕ) → kept_by (claims ++ None ∷ []) cpu ≡ None
-none-push [] none zero = refl
-none-push [] none (suc cpu) = none-in cpu
-none-push (k ∷ claims) none zero = none 0
-none-push (k ∷ claims) none (suc cpu) = none-push claims (λ n. none (suc n)) cpu
-
-pub nothing-more : (claims claims' : List (Option OpenClaim)) (count : ℕ) → NothingKept claims count → claims' ≡ claims ++ None ∷ [] → NothingKept claims' (count + 1)
-nothing-more claims claims' count kept is =
-    subst (λ cs. NothingKept cs (count + 1)) (sym is)
-    (record { places = length_push claims None ∙ ap (λ n. n + 1) kept.places; none = none-push claims kept.none })
-
-pub new-out : (claims : List (Option OpenClaim)) (count : ℕ) → NothingKept claims count → (cpu : ℕ) → slice_index_or (map handed_for claims) cpu None ≡ None
-new-out claims count kept cpu = handed-is claims cpu ∙ ap handed_for (kept.none cpu)
+-- what is out with a processor is out of the table
+handed-out : (boot : Boot) (bit : ℕ → Bool) (tickets : List Ticket) (k : Option OpenClaim) (c : Option Claimed) (handed : Handed) → handed_for k ≡ Some handed → ClaimStands boot bit tickets k c → is_out tickets handed.ticket ≡ true
+handed-out boot bit tickets None c handed is stands = cc
+handed-out boot bit tickets (Some k) None handed is stands = absurd stands
+handed-out boot bit tickets (Some k) (Some claim) handed is stands =
+    let made : Handed = record { ticket = k.ticket; room = k.room } in
+    let same : made ≡ handed = (let both : Some made ≡ Some handed = is in cc) in
+    ap (λ (h : Handed). is_out tickets h.ticket) (sym same) ∙ stands.out
 
 no-claim : (boot : Boot) (entries : List Entry) → entries ≡ [] → (cpu : ℕ) → claim_of boot entries cpu ≡ None
 unfolding claim_of
@@ -87,38 +83,25 @@ second_of_two : (b c : Bool) → elim b as (λ _. Bool) [ true ↦ c | false ↦
 second_of_two true c h = h
 second_of_two false c h = cc
 
--- a unit is a number of pages, 512 at most
-record IsSize (pages : ℕ) : Type 0 where
-  pub some : 0 < pages
-  pub small : pages ≤ 512
+-- a unit is one that a table may have, and the first one begins on a unit's border
+unit-right : (map : List Descriptor) (table : Option Bits) → FitsGiven map table → is_unit (unit_by table) ≡ true
+unit-right map None fits = any_such_is (λ order. default_unit == 4096 * 2 ^ order) 0 10 9 (omega arith) (omega arith) refl
+unit-right map (Some table) fits = fits.is_table.unit_is
 
-size-of : (unit order : ℕ) → order < 10 → unit ≡ 4096 * 2 ^ order → IsSize (unit / 4096)
-size-of unit order low is =
-    let pages : unit / 4096 ≡ 2 ^ order = (let whole : 4096 * 2 ^ order / 4096 ≡ 2 ^ order = omega arith in ap (λ u. u / 4096) is ∙ whole) in
-    let some = pow_pos order in
-    let under : order ≤ 9 = omega (arith, low) in
-    let two : 0 < 2 = omega arith in
-    let few : 2 ^ order ≤ 2 ^ 9 = pow-le-pow_right {n = 2} two {i = order} {j = 9} under in
-    record { some = omega (arith, pages, some); small = omega (arith, pages, few) }
+base-right : (map : List Descriptor) (table : Option Bits) → FitsGiven map table → base_by map table % unit_by table ≡ 0
+base-right map None fits = mul-mod_left (least_start (unaccepted map) / default_unit) default_unit
+base-right map (Some table) fits = fits.is_table.aligned
 
-table-size : (unit : ℕ) → is_unit unit ≡ true → IsSize (unit / 4096)
-table-size unit is =
-    let found = any_such-true (λ order. unit == 4096 * 2 ^ order) 0 10 is in
-    let high = found.1.high in
-    size-of unit found.0 (omega (arith, high)) (eqb-true unit (4096 * 2 ^ found.0) found.1.passes)
-
-unit-size : (map : List Descriptor) (table : Option Bits) → FitsGiven map table → IsSize (unit_by table / 4096)
-unit-size map None fits = record { some = omega arith; small = omega arith }
-unit-size map (Some table) fits = table-size table.unit fits.is_table.unit_is
-
-pub booted : (map : List Descriptor) (hosts : List HostRun) (table : Option Bits) (slots areas cpus : ℕ) (boot : Boot) → MapRules map hosts → FitsGiven map table → BootRight map hosts table slots areas cpus boot → boot.cpus ≤ 64 → IsBooted boot
-booted map hosts table slots areas cpus boot rules fits right few =
-    let size = subst (λ u. IsSize (u / 4096)) (sym right.unit) (unit-size map table fits) in
+pub booted : (map : List Descriptor) (hosts : List HostRun) (table : Option Bits) (slots areas cpus : ℕ) (boot : Boot) → MapRules map hosts → FitsGiven map table → Uncalled map hosts table slots areas cpus boot → boot.cpus ≤ 64 → IsBooted boot
+booted map hosts table slots areas cpus boot rules fits plain few =
+    let size = subst (λ u. IsSize (u / 4096)) (sym plain.unit) (unit-size map table fits) in
     record {
-      pending = set-pending map hosts table slots areas cpus boot rules fits right;
-      low = ram-low map hosts table slots areas cpus boot rules right;
+      pending = set-pending map hosts table slots areas cpus boot rules fits plain;
+      low = ram-low map hosts table slots areas cpus boot rules plain;
       some = size.some;
       small = size.small;
+      unit_is = ap is_unit plain.unit ∙ unit-right map table fits;
+      aligned = ap (λ u. boot.base % u) plain.unit ∙ ap (λ b. b % unit_by table) plain.base ∙ base-right map table fits;
       cpus = few;
     }
 
@@ -138,19 +121,20 @@ ram-first boot calls begun none unit page set inside is =
     cc
 
 -- the memory of a boot
-pub new-stands : (descriptors : List Descriptor) (given : Option Bits) (hosts : List HostRun) (slots areas cpus : ℕ) (boot value : Boot) (entries : Vec Entry Global) (table : Table) (bits : Option Bits) (ranges : List (Option Units)) (claims : List (Option OpenClaim))
+pub new-stands : (descriptors : List Descriptor) (given : Option Bits) (hosts : List HostRun) (slots areas cpus : ℕ) (boot value : Boot) (entries : Vec Entry Global) (table : Table) (bits : Option Bits) (claims : List (Option OpenClaim))
     → value ≡ boot → MapRules descriptors hosts → FitsGiven descriptors given → BootRight descriptors hosts given slots areas cpus boot → SoundCalls (first_state_of boot.ram) boot.calls → boot.cpus ≤ 64
     → ((page : ℕ) → state_in table.runs page ≡ page_state boot boot.calls page) → table.out ≡ [] → BitsAfter boot boot.calls bits
-    → ((cpu : ℕ) → range_of ranges cpu ≡ None) → NothingKept claims boot.cpus → entries.items ≡ []
-    → StandsFor value entries 0 table bits ranges claims (boot.unit / 4096) 0 0
-new-stands descriptors given hosts slots areas cpus boot value entries table bits ranges claims same rules fits right sound few states none_out after free kept none =
+    → claims ≡ replicate 64 None → entries.items ≡ []
+    → StandsFor value entries 0 table bits claims (boot.unit / 4096) 0 0
+new-stands descriptors given hosts slots areas cpus boot value entries table bits claims same rules fits right sound few states none_out after free none =
     let calls : calls_of boot entries.items ≡ boot.calls = ap (calls_of boot) none ∙ append-nil boot.calls in
-    let reports = sum-none reports_of claims refl kept.none in
+    let none_kept = none-at-first claims free in
+    let reports = sum-none reports_of claims refl none_kept in
     let long = ap (λ (es : List Entry). length es) none in
-    let begun = booted descriptors hosts given slots areas cpus boot rules fits right few in
+    let begun = booted descriptors hosts given slots areas cpus boot rules fits right.uncalled few in
     let takes = boot-takes-none descriptors hosts given slots areas cpus boot right in
-    let P : List ModuleCall → Type 0 = λ cs. HoldsFor boot cs (claim_of boot entries.items) table.runs table.out (bits_in bits) (kept_by claims) in
-    let Q : Boot → Type 0 = λ b. StandsFor b entries 0 table bits ranges claims (boot.unit / 4096) 0 0 in
+    let P : List ModuleCall → Type 0 = λ cs. HoldsFor boot cs (claim_of boot entries.items) table.runs table.out (bits_in bits) (kept_of claims) in
+    let Q : Boot → Type 0 = λ b. StandsFor b entries 0 table bits claims (boot.unit / 4096) 0 0 in
     subst Q (sym same)
     (record {
       booted = begun;
@@ -162,17 +146,31 @@ new-stands descriptors given hosts slots areas cpus boot value entries table bit
                 ap (λ b. is_marked b boot.calls page) was ∙ boot-marks descriptors hosts given slots areas cpus boot rules fits right sound unit page was inside);
             ram = ram-first boot boot.calls begun takes;
             states = λ page inside. states page;
-            open_claims = λ cpu. stands-none boot (bits_in bits) table.out (kept_by claims cpu) (claim_of boot entries.items cpu) (kept.none cpu) (no-claim boot entries.items none cpu);
+            away = λ cpu claim page is. let no : None ≡ Some claim = sym (no-claim boot entries.items none cpu) ∙ is in cc;
+            open_claims = λ cpu. stands-none boot (bits_in bits) table.out (kept_of claims cpu) (claim_of boot entries.items cpu) (none_kept cpu) (no-claim boot entries.items none cpu);
             apart = λ c d a b differ is_a is_b. let no : None ≡ Some a = sym (no-claim boot entries.items none c) ∙ is_a in cc;
           });
       same_bits = after.same;
       last_is = sym (ap last_stamp none);
-      places = kept.places;
-      ranges_are = λ cpu. free cpu ∙ sym (ap (option_map (λ (c : OpenClaim). c.units)) (kept.none cpu));
-      spans = ap (λ (ts : List Ticket). length ts) none_out ∙ sym (no-spans claims kept.none);
+      places = ap (λ (cs : List (Option OpenClaim)). length cs) free;
+      cpus = λ cpu claim is. (let no : None ≡ Some claim = sym (none_kept cpu) ∙ is in cc);
+      spans = ap (λ (ts : List Ticket). length ts) none_out ∙ sym (no-spans claims none_kept);
       pages_are = refl;
       reports = sym reports;
       entry_room = omega (arith, long);
       table_room = omega arith;
       stamps = omega arith;
     })
+
+-- the table of a memory that stands for its entries
+pub gives-table : (boot : Boot) (entries : Vec Entry Global) (last : ℕ) (table : Table) (bits : Option Bits) (claims : List (Option OpenClaim)) (pages kept room : ℕ) → StandsFor boot entries last table bits claims pages kept room → GivesTable (seen boot entries.items claims room) table
+gives-table boot entries last table bits claims pages kept room s = record {
+  states = s.holds.states;
+  away = s.holds.away;
+  out = λ cpu handed is. handed-out boot (bits_in bits) table.out (kept_of claims cpu) (claim_of boot entries.items cpu) handed (sym (handed-is claims cpu) ∙ is) (s.holds.open_claims cpu);
+  none = λ none. empty table.out (s.spans ∙ no-spans claims (λ cpu. none-kept boot (bits_in bits) table.out (kept_of claims cpu) (claim_of boot entries.items cpu) (none cpu) (s.holds.open_claims cpu)));
+}
+
+-- where no claim is open, every page is in the table
+pub all-in : (memory : MemoryValue) → NoneOpen memory → (page : ℕ) → IsInTable memory.boot (claim_of memory.boot memory.entries) page
+all-in memory none page cpu claim is = let no : None ≡ Some claim = sym (none cpu) ∙ is in cc

@@ -1,6 +1,7 @@
-use Rattle.std.proofs.Common.{◌≡◌, ◌≢◌, ℕ, ◌+◌, ◌-◌, ◌*◌, ◌^◌, ◌<◌, ◌≤◌, true, false, Option, None, Some, List, [], ◌∷◌, ◌++◌, refl, sym, ◌∙◌, ap, subst, arith, cond}
+use Rattle.std.proofs.Common.{◌≡◌, ◌≢◌, ℕ, ◌+◌, ◌-◌, ◌*◌, ◌<◌, ◌≤◌, true, false, Option, None, Some, List, [], ◌∷◌, ◌++◌, refl, sym, ◌∙◌, ap, subst, arith, cond}
 use Rattle.std.specs.Prelude.{◌==◌, drop}
 use Rattle.std.proofs.Math.Nat.{mul-le-mul_right}
+use Rattle.guest_base.proofs.RangeLemmas.{in_range-intro, in_range-elim, in_range-past}
 use Rattle.guest_base.specs.Ranges.{in_range}
 use Rattle.guest_base.specs.Search.{any_such}
 use Rattle.guest_base.specs.declared.memory.Page.{Page}
@@ -21,15 +22,14 @@ use Rattle.accept_sizes.specs.Accepts.{pending_of}
 use Rattle.accept_sizes.specs.Ends.{stopped_at}
 use Rattle.accept_sizes.specs.declared.accept.RunEnd.{RunEnd}
 use Rattle.accept_sizes.specs.declared.accept.RunEnd.TheVariants.{Whole, Stopped}
-use Rattle.memory_core.specs.Booted.{IsBooted}
 use Rattle.memory_core.specs.Bitmaps.{bits_in, SameBits, ClearedIn, AreRunsFrom, next_of}
-use Rattle.memory_core.specs.Steps.{HasStates, pages_of, BringsTo}
-use Rattle.memory_core.specs.StandsFor.{HoldsFor, OpenStands, IsIn, pieces_for}
+use Rattle.memory_core.specs.Steps.{HasStates, pages_of, BringsTo, IsInTable}
+use Rattle.memory_core.specs.StandsFor.{HoldsFor, OpenStands, pieces_for}
 use Rattle.memory_core.specs.declared.claims.OpenClaim.{OpenClaim}
 use Rattle.memory_core.proofs.KeptLemmas.{kept-first, kept-rest}
-use Rattle.memory_core.proofs.HoldsLemmas.{open-kept, kept-open, holds-open, holds-close, OthersSame, Returns, one-run, stands-virtual, other-unit, put_back}
+use Rattle.memory_core.proofs.HoldsLemmas.{open-kept, kept-open, holds-open, holds-close, OthersSame, Returns, one-run, stands-virtual, other-unit, others-page, put_back}
 use Rattle.memory_core.proofs.RunLemmas.{run-stands, run-cleared}
-use Rattle.memory_core.proofs.UnitsLemmas.{in_range-elim, in_range-intro, in_range-past, first_run-facts, IsRunIn, runs-apart, run-counts, run-page-some, run-low}
+use Rattle.memory_core.proofs.UnitsLemmas.{first_run-facts, IsRunIn, runs-apart, run-counts, run-page-some}
 use Rattle.memory_core.proofs.BitsLemmas.{cleared-bits, cleared-count}
 use Rattle.memory_core.proofs.StepLemmas.{same-is, not-same}
 use Rattle.memory_core.proofs.OpenLemmas.{run-in, has-states, runs-few, room-left}
@@ -138,11 +138,8 @@ module _ (boot : Boot) (calls now : List ModuleCall) (claims : ℕ → Option Cl
       let stands = run-stands boot calls now claim.run (page_state boot calls) (put_back boot calls claim.run span) (state_in r.brings.taken.runs) (state_in span.runs) (bits_in bits) (bits_in bits')
       (stands-virtual boot calls claims table.runs table.out (bits_in bits) kept r.holds) (one-run boot calls now claim.run r.brings.taken span table.runs table'.runs (bits_in bits) (bits_in bits') opened.each returns) in
       let found = open-kept boot (bits_in bits) table.out (kept d) (claims d) b is (r.holds.open_claims d) in
-      let low = found.2.low in
-      let within = found.2.within in
       let mine = opened in
-      let apart = r.holds.apart d cpu b claim differ is r.claimed in
-      let out = runs-apart boot b.run claim.run page (λ unit in_run. let at = in_range-elim b.run.first b.run.count unit in_run in other-unit claim b unit mine.low mine.within apart (omega (arith, low, at.0)) (omega (arith, within, at.1))) inside in
+      let out = others-page boot b claim page found.2.low found.2.within mine.low mine.within (r.holds.apart d cpu b claim differ is r.claimed) inside in
       sym (stands.states page) ∙ ap (λ b. cond b (state_in span.runs page) (page_state boot calls page)) out
 
   -- the claims without the reported one
@@ -206,7 +203,7 @@ module _ (boot : Boot) (calls now : List ModuleCall) (claims : ℕ → Option Cl
       (was.some, omega (arith, count, enough))
 
   -- its pages are in
-  pub next-in : (run : Units) → next_run boot claim None ≡ Some run → (page : ℕ) → in_range (pages_first boot run) (pages_count boot run) page ≡ true → IsIn boot claims_left page
+  pub next-in : (run : Units) → next_run boot claim None ≡ Some run → (page : ℕ) → in_range (pages_first boot run) (pages_count boot run) page ≡ true → IsInTable boot claims_left page
   next-in run is page inside =
       let facts = next-facts run is in
       let low = facts.low in
@@ -218,12 +215,6 @@ module _ (boot : Boot) (calls now : List ModuleCall) (claims : ℕ → Option Cl
   next-here run is page inside none =
       run-page-some boot (calls ++ now) run left-holds.ram (λ unit in_run. sym (left-holds.bits unit) ∙ (next-facts run is).set unit in_run) page inside
       (sym (left-holds.states page (next-in run is page inside)) ∙ none)
-
-  -- they end within memory
-  pub next-low : (run : Units) → IsBooted boot → next_run boot claim None ≡ Some run → pages_first boot run + pages_count boot run ≤ 2 ^ 28
-  next-low run booted is =
-      let facts = next-facts run is in
-      (run-low boot (calls ++ now) run booted left-holds.ram facts.some (λ unit in_run. sym (left-holds.bits unit) ∙ facts.set unit in_run)).0
 
   -- the span that is taken has its pages' states
   pub next-has : (run : Units) (asked : Pages) (span' : Taken) → next_run boot claim None ≡ Some run → asked ≡ pages_of boot run → span'.ticket.pages ≡ asked

@@ -1,10 +1,11 @@
-use Rattle.std.proofs.Common.{◌≡◌, ◌≢◌, ℕ, ◌+◌, ◌*◌, ◌/◌, ◌<◌, ◌≤◌, Bool, true, false, ◌&&◌, Option, None, Some, List, [], ◌∷◌, ◌++◌, refl, sym, ◌∙◌, ap, subst, inl, inr, arith, cond}
+use Rattle.std.proofs.Common.{◌≡◌, ◌≢◌, ℕ, ◌+◌, ◌*◌, ◌/◌, ◌≤◌, Bool, true, false, ◌&&◌, Option, None, Some, List, [], ◌∷◌, ◌++◌, refl, sym, ◌∙◌, ap, subst, inl, inr, arith, cond}
 use Rattle.std.specs.Prelude.{fold, nat_lt, if◌then◌else◌, not}
 use mathlib.Core.Path.{fun_ext}
 use Rattle.std.specs.List.{AllByRecursion}
 use Rattle.std.proofs.Math.Nat.{mul-le-mul_right}
 use Rattle.std.proofs.lemmas.Bool.{cases_Bool, cases_lt}
 use Rattle.std.proofs.lemmas.List.Sums.{fold-append}
+use Rattle.guest_base.proofs.RangeLemmas.{in_range-intro, in_range-elim, in_range-below, in_range-past}
 use Rattle.guest_base.specs.Ranges.{in_range}
 use Rattle.guest_base.specs.Search.{any_such, count_such}
 use Rattle.guest_base.proofs.SearchLemmas.{any_such_same, any_such_is, any_such-true, count_such_same}
@@ -23,7 +24,7 @@ use Rattle.event_core.specs.Units.{bit_of, bit_after, is_marked, mark_step, mark
 use Rattle.event_core.specs.Acceptance.{AcceptanceSteps, goes_on_at, tried_at}
 use Rattle.event_core.specs.MemoryRows.{page_state, is_pending, pending_in, pages_first, pages_count, AcceptsUnits}
 use Rattle.event_core.proofs.BootFacts.{TakesNone}
-use Rattle.event_core.proofs.StepsLemmas.{steps-covers, steps-outside, not_both}
+use Rattle.event_core.proofs.StepsLemmas.{steps-covers, steps-outside, not_both, pending-if}
 use Rattle.event_core.proofs.SoundLemmas.{state_after-append}
 use Rattle.memory_core.specs.Booted.{MarksArePending, UnitsAreRam}
 
@@ -131,18 +132,6 @@ marks-outside hosts set end from tried (call ∷ calls) marked page out steps =
 
 -- ---- the pages of units
 
-in_range-elim : (first count n : ℕ) → in_range first count n ≡ true → (first ≤ n) × (n < first + count)
-in_range-elim first count n h = grind arith
-
-in_range-intro : (first count n : ℕ) → first ≤ n → n < first + count → in_range first count n ≡ true
-in_range-intro first count n low high = grind arith
-
-in_range-below : (first count n : ℕ) → n < first → in_range first count n ≡ false
-in_range-below first count n low = grind arith
-
-in_range-past : (first count n : ℕ) → first + count ≤ n → in_range first count n ≡ false
-in_range-past first count n high = grind arith
-
 -- the pages of a unit outside a run of units aren't the run's
 pub apart-pages : (boot : Boot) (run : Units) (unit page : ℕ) → in_range run.first run.count unit ≡ false → in_range (unit_first boot unit) (unit_pages boot) page ≡ true → in_range (pages_first boot run) (pages_count boot run) page ≡ false
 apart-pages boot run unit page out inside =
@@ -220,10 +209,6 @@ pub record OneRun (boot : Boot) (run : Units) (now : List ModuleCall) (table nex
   pub made : (page : ℕ) → new page ≡ state_after old now page
   pub put : (page : ℕ) → next page ≡ cond (in_range (pages_first boot run) (pages_count boot run) page) (new page) (table page)
   pub clears : (unit : ℕ) → cleared unit ≡ cond (in_range run.first run.count unit) (any_such (λ page. is_pending (new page)) (unit_first boot unit) (unit_pages boot)) (bits unit)
-
-pending-if : (b : Bool) (s : Option PageState) → is_pending (cond b s None) ≡ (b && is_pending s)
-pending-if true s = refl
-pending-if false s = refl
 
 -- the set that was accepted is the run's
 same-set : (boot : Boot) (calls : List ModuleCall) (run : Units) (table old : ℕ → Option PageState) → ((page : ℕ) → table page ≡ page_state boot calls page) → ((page : ℕ) → old page ≡ cond (in_range (pages_first boot run) (pages_count boot run) page) (table page) None) → (λ page. is_pending (old page)) ≡ pending_in boot calls run

@@ -18,9 +18,10 @@ use Rattle.event_core.specs.Claims.{Claimed, claim_of, claim_step, opened}
 use Rattle.event_core.proofs.StandingLemmas.{calls_of-push, claim_of-push}
 use Rattle.page_module.specs.Tables.{Table}
 use Rattle.event_core.specs.Table.{Bits}
+use Rattle.accepting_ranges.specs.Claims.{kept_of}
 use Rattle.memory_core.specs.Bitmaps.{bits_in, both_or_none}
 use Rattle.memory_core.specs.Steps.{last_stamp, bare_entry}
-use Rattle.memory_core.specs.StandsFor.{StandsFor, HoldsFor, kept_by}
+use Rattle.memory_core.specs.StandsFor.{StandsFor, HoldsFor}
 use Rattle.memory_core.specs.declared.claims.OpenClaim.{OpenClaim}
 use Rattle.memory_core.proofs.ClearLemmas.{nat-cases}
 
@@ -84,14 +85,14 @@ claims-closed boot entries turn last units run free none =
 
 -- ---- a step that changes entries and room alone
 
-pub stands-more : (boot : Boot) (entries entries' : Vec Entry Global) (last last' : ℕ) (table : Table) (bits : Option Bits) (ranges : List (Option Units)) (claims : List (Option OpenClaim)) (pages kept room room' : ℕ) (turn : Turn) (event : Event)
-    → StandsFor boot entries last table bits ranges claims pages kept room
+pub stands-more : (boot : Boot) (entries entries' : Vec Entry Global) (last last' : ℕ) (table : Table) (bits : Option Bits) (claims : List (Option OpenClaim)) (pages kept room room' : ℕ) (turn : Turn) (event : Event)
+    → StandsFor boot entries last table bits claims pages kept room
     → calls_of boot (entries.items ++ bare_entry turn last event ∷ []) ≡ calls_of boot entries.items
     → claim_of boot (entries.items ++ bare_entry turn last event ∷ []) ≡ claim_of boot entries.items
     → entries'.items ≡ entries.items ++ bare_entry turn last event ∷ [] → vec_capacity entries ≤ vec_capacity entries'
     → last' ≡ max turn.clock last + 1 → turn.clock < 2 ^ 64 → last < 2 ^ 64 → kept < 2 ^ 64 → 0 < room → room' ≡ room - 1
-    → StandsFor boot entries' last' table bits ranges claims pages kept room'
-stands-more boot entries entries' last last' table bits ranges claims pages kept room room' turn event s same-calls same-claims is more last_is low_clock low_last few some room_is =
+    → StandsFor boot entries' last' table bits claims pages kept room'
+stands-more boot entries entries' last last' table bits claims pages kept room room' turn event s same-calls same-claims is more last_is low_clock low_last few some room_is =
     let long : length entries'.items ≡ length entries.items + 1 = ap (λ (es : List Entry). length es) is ∙ length_push entries.items (bare_entry turn last event) in
     let fits = s.entry_room in
     let pieces = s.table_room in
@@ -99,14 +100,14 @@ stands-more boot entries entries' last last' table bits ranges claims pages kept
     record {
       booted = s.booted;
       holds =
-          (let P : List ModuleCall → (ℕ → Option Claimed) → Type 0 = λ calls claimed. HoldsFor boot calls claimed table.runs table.out (bits_in bits) (kept_by claims) in
+          (let P : List ModuleCall → (ℕ → Option Claimed) → Type 0 = λ calls claimed. HoldsFor boot calls claimed table.runs table.out (bits_in bits) (kept_of claims) in
           let Q : List ModuleCall → Type 0 = λ calls. P calls (claim_of boot entries.items) in
           let R : (ℕ → Option Claimed) → Type 0 = λ claimed. P (calls_of boot entries'.items) claimed in
           subst R (sym (ap (claim_of boot) is ∙ same-claims)) (subst Q (sym (ap (calls_of boot) is ∙ same-calls)) s.holds));
       same_bits = s.same_bits;
       last_is = last_is ∙ sym (ap last_stamp is ∙ last-push entries.items turn last event s.last_is);
       places = s.places;
-      ranges_are = s.ranges_are;
+      cpus = s.cpus;
       spans = s.spans;
       pages_are = s.pages_are;
       reports = s.reports;

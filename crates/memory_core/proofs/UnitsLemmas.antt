@@ -1,6 +1,7 @@
 use Rattle.std.proofs.Common.{◌≡◌, ◌≢◌, ℕ, zero, suc, ◌+◌, ◌-◌, ◌*◌, ◌/◌, ◌^◌, ◌<◌, ◌≤◌, Bool, true, false, Option, None, Some, List, refl, sym, ◌∙◌, ap, subst, inl, inr, arith}
 use Rattle.std.proofs.Math.Nat.{mul-le-mul_right, mul-le-mul_left}
 use Rattle.std.proofs.lemmas.Bool.{cases_lt}
+use Rattle.guest_base.proofs.RangeLemmas.{in_range-intro, in_range-elim, in_range-below, in_range-past}
 use Rattle.guest_base.specs.Ranges.{in_range}
 use Rattle.guest_base.specs.Search.{first_such, row_length, count_such}
 use Rattle.guest_base.proofs.SearchLemmas.{first_such-Some, first_such_same, row_length_same, row_length-pass_each, row_length-le, row_length-pass, count_such-append, count_such_all}
@@ -13,18 +14,6 @@ use Rattle.event_core.specs.Claims.{units_meet}
 use Rattle.event_core.specs.MemoryRows.{page_state, pages_first, pages_count}
 use Rattle.memory_core.specs.Booted.{IsBooted, UnitsAreRam}
 use Rattle.memory_core.proofs.RunLemmas.{apart-pages, state_after-some}
-
-pub in_range-elim : (first count n : ℕ) → in_range first count n ≡ true → (first ≤ n) × (n < first + count)
-in_range-elim first count n h = grind arith
-
-pub in_range-intro : (first count n : ℕ) → first ≤ n → n < first + count → in_range first count n ≡ true
-in_range-intro first count n low high = grind arith
-
-pub in_range-below : (first count n : ℕ) → n < first → in_range first count n ≡ false
-in_range-below first count n low = grind arith
-
-pub in_range-past : (first count n : ℕ) → first + count ≤ n → in_range first count n ≡ false
-in_range-past first count n high = grind arith
 
 -- the unit, of some from one on, in which a page lies
 pub record UnitWith (base size first count page : ℕ) : Type 0 where

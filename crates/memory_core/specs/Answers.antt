@@ -1,4 +1,4 @@
-use Rattle.std.specs.Prelude.{ℕ, List, Option, None, Some, true, ◌≡◌, ◌≢◌}
+use Rattle.std.specs.Prelude.{ℕ, List, [], Option, None, Some, true, ◌≡◌, ◌≢◌, ◌+◌}
 use Rattle.guest_base.specs.Ranges.{in_range}
 use Rattle.guest_base.specs.declared.memory.Units.{Units}
 use Rattle.event_core.specs.declared.entry.Turn.{Turn}
@@ -8,14 +8,16 @@ use Rattle.event_core.specs.Calls.{calls_of}
 use Rattle.event_core.specs.Claims.{Claimed, claim_of, in_the_way}
 use Rattle.event_core.specs.MemoryRows.{page_state, pages_first, pages_count, run_of_claim, next_run, cleared_by}
 use Rattle.page_module.specs.Spans.{Taken}
+use Rattle.page_module.specs.States.{state_in}
+use Rattle.page_module.specs.Tables.{Table, is_out}
 use Rattle.accept_sizes.specs.declared.accept.RunEnd.{RunEnd}
 use Rattle.accept_sizes.specs.declared.accept.RunEnd.TheVariants as end
 use Rattle.memory_core.specs.declared.memory.Begin.{Begin}
 use Rattle.memory_core.specs.declared.memory.Begin.TheVariants.{Clear, Claimed as IsClaimed, Blocked}
 use Rattle.memory_core.specs.declared.memory.Reported.{Reported}
 use Rattle.memory_core.specs.declared.memory.Reported.TheVariants.{Next, Closed, Stopped}
-use Rattle.memory_core.specs.Value.{MemoryValue, handed_to}
-use Rattle.memory_core.specs.Steps.{IsOutFor}
+use Rattle.memory_core.specs.Value.{MemoryValue, Handed, handed_to}
+use Rattle.memory_core.specs.Steps.{IsInTable, IsOutFor}
 
 -- What the steps of the memory answer.
 
@@ -27,16 +29,27 @@ pub record IsMet (memory : MemoryValue) (units : Option Units) (met : Units) : T
   pub claimed : claim_of memory.boot memory.entries cpu ≡ Some claim
   pub same : claim.units ≡ met
 
--- nothing is in the way, and a run is out as the first one of a claim
-pub record Opens (old new : MemoryValue) (cpu : ℕ) (units : Option Units) (span : Taken) : Type 0 where
+-- a step uses the room of one entry, and leaves what is out
+pub record UsesOne (old new : MemoryValue) : Type 0 where
+  pub out : new.out ≡ old.out
+  pub room : new.room + 1 ≡ old.room
+
+-- nothing is in the way, and a run is out as the first one of a claim; but for an entry and the
+-- run, all room is the claim's
+pub record Opens (old new : MemoryValue) (cpu : ℕ) (units : Option Units)
+    (span : Taken) : Type 0 where
   pub run : Units
   pub free : in_the_way old.boot old.entries units ≡ None
   pub first : run_of_claim old.boot old.entries units ≡ Some run
   pub out : IsOutFor new cpu run span
+  pub kept : out.room + run.count + 1 ≡ old.room
+  pub left : new.room ≡ 0
 
 -- a begun acceptance of guarded units
 abbrev pub BegunBy : MemoryValue → MemoryValue → Turn → Option Units → Begin → Type 0
-BegunBy old new turn units Clear = (in_the_way old.boot old.entries units ≡ None) × (run_of_claim old.boot old.entries units ≡ None)
+BegunBy old new turn units Clear =
+    (in_the_way old.boot old.entries units ≡ None)
+    × (run_of_claim old.boot old.entries units ≡ None) × UsesOne old new
 BegunBy old new turn units (IsClaimed span) = Opens old new turn.cpu.0 units span
 BegunBy old new turn units (Blocked met) = IsMet old units met
 
@@ -45,31 +58,61 @@ IsBlocked Clear = ⊥
 IsBlocked (IsClaimed span) = ⊥
 IsBlocked (Blocked met) = Unit {0}
 
--- a claim goes on with its next run
-pub record GoesOn (old new : MemoryValue) (cpu : ℕ) (claim : Claimed) (calls : List ModuleCall) (span : Taken) : Type 0 where
+-- a claim goes on with its next run, for which its room is used
+pub record GoesOn (old new : MemoryValue) (cpu : ℕ) (claim : Claimed)
+    (calls : List ModuleCall) (span : Taken) : Type 0 where
   pub run : Units
   pub next : next_run old.boot claim (stop_of calls) ≡ Some run
   pub out : IsOutFor new cpu run span
+  pub kept : (handed : Handed) → handed_to old cpu ≡ Some handed
+      → out.room + run.count ≡ handed.room
+  pub left : new.room ≡ 0
 
--- a reported run of a claim: the acceptance stopped, or the claim goes on, or no run is left and so many units were cleared
-abbrev pub ReportedBy : MemoryValue → MemoryValue → Turn → Claimed → List ModuleCall → Reported → Type 0
+-- a claim is closed: nothing is out any more with its processor, and the room for the next step
+-- stays
+pub record Closes (old new : MemoryValue) (cpu : ℕ) : Type 0 where
+  pub none : handed_to new cpu ≡ None
+  pub room : new.room ≡ old.room
+
+-- a reported run of a claim: the acceptance stopped, or the claim goes on, or no run is left and
+-- this many units were cleared
+abbrev pub ReportedBy : MemoryValue → MemoryValue → Turn → Claimed → List ModuleCall → Reported
+    → Type 0
 ReportedBy old new turn claim calls (Next span) = GoesOn old new turn.cpu.0 claim calls span
 ReportedBy old new turn claim calls (Closed count) =
-    (stop_of calls ≡ None) × (next_run old.boot claim (stop_of calls) ≡ None) × (count ≡ cleared_by old.boot old.entries claim calls)
-ReportedBy old new turn claim calls Stopped = stop_of calls ≢ None
+    (stop_of calls ≡ None) × (next_run old.boot claim (stop_of calls) ≡ None)
+    × (count ≡ cleared_by old.boot old.entries claim calls) × Closes old new turn.cpu.0
+ReportedBy old new turn claim calls Stopped = (stop_of calls ≢ None) × Closes old new turn.cpu.0
 
 -- the answer of a report that closes the claim
 abbrev pub answer_at : RunEnd → ℕ → Reported
 answer_at end.Whole cleared = Closed cleared
 answer_at (end.Stopped page) cleared = Stopped
 
--- a step of one processor leaves what is out with the others: the claims, and the states of their pages
+-- a step of one processor leaves what is out with the others: the claims, and the states of their
+-- pages
 pub record OthersKeep (old new : MemoryValue) (cpu : ℕ) : Type 0 where
   pub handed : (other : ℕ) → other ≢ cpu → handed_to new other ≡ handed_to old other
-  pub states : (other : ℕ) (claim : Claimed) (page : ℕ) → other ≢ cpu → claim_of old.boot old.entries other ≡ Some claim
+  pub states : (other : ℕ) (claim : Claimed) (page : ℕ) → other ≢ cpu
+      → claim_of old.boot old.entries other ≡ Some claim
       → in_range (pages_first old.boot claim.run) (pages_count old.boot claim.run) page ≡ true
-      → page_state old.boot (calls_of old.boot new.entries) page ≡ page_state old.boot (calls_of old.boot old.entries) page
+      → page_state old.boot (calls_of old.boot new.entries) page
+      ≡ page_state old.boot (calls_of old.boot old.entries) page
 
 -- no processor has an open claim
 abbrev pub NoneOpen : MemoryValue → Type 0
 NoneOpen memory = (cpu : ℕ) → claim_of memory.boot memory.entries cpu ≡ None
+
+-- The table of a memory: the pages of the runs that are out are in no run of it, and every other
+-- page has its state after the entries. The spans that are out with processors may be put back, and
+-- where no claim is open none is out.
+pub record GivesTable (memory : MemoryValue) (table : Table) : Type 0 where
+  pub states : (page : ℕ) → IsInTable memory.boot (claim_of memory.boot memory.entries) page
+      → state_in table.runs page ≡ page_state memory.boot (calls_of memory.boot memory.entries) page
+  pub away : (cpu : ℕ) (claim : Claimed) (page : ℕ)
+      → claim_of memory.boot memory.entries cpu ≡ Some claim
+      → in_range (pages_first memory.boot claim.run) (pages_count memory.boot claim.run) page ≡ true
+      → state_in table.runs page ≡ None
+  pub out : (cpu : ℕ) (handed : Handed) → handed_to memory cpu ≡ Some handed
+      → is_out table.out handed.ticket ≡ true
+  pub none : NoneOpen memory → table.out ≡ []

@@ -1,4 +1,5 @@
-use Rattle.std.specs.Prelude.{ℕ, List, [], ◌∷◌, Option, None, Some, Bool, false, ◌≡◌, ◌+◌, ◌*◌, ◌/◌, ◌^◌, ◌<◌, length, slice_get, not, ◌&&◌, if◌then◌else◌}
+use Rattle.std.specs.Prelude.{ℕ, List, [], ◌∷◌, Option, None, Some, Bool, false, ◌≡◌, ◌+◌, ◌*◌, ◌/◌, ◌<◌, length, slice_get, not, ◌&&◌, if◌then◌else◌}
+use Rattle.guest_base.specs.declared.limits.TheConstants.{PAGE_BYTES, ADDRESS_END}
 use Rattle.guest_base.specs.Ranges.{in_range}
 use Rattle.guest_base.specs.Search.{any_such, count_such}
 use Rattle.guest_base.specs.declared.memory.Pages.{Pages}
@@ -6,7 +7,6 @@ use Rattle.guest_base.specs.declared.memory.Units.{Units}
 use Rattle.event_core.specs.declared.boot.Boot.{Boot}
 use Rattle.event_core.specs.declared.module_call.ModuleCall.{ModuleCall}
 use Rattle.event_core.specs.Units.{bit_of, bit_after, first_run, units_end}
-use Rattle.accepting_ranges.specs.Claims.{MeetsNone, IsFirstToMeet}
 use Rattle.accept_sizes.specs.declared.accept.RunEnd.{RunEnd}
 use Rattle.accept_sizes.specs.declared.accept.RunEnd.TheVariants.{Whole, Stopped}
 use Rattle.event_core.specs.Table.{Bits}
@@ -37,21 +37,24 @@ any_in test (Some units) = any_such test units.first units.count
 
 -- the pages of a unit, and the first of them
 abbrev pub unit_pages_of : Bits → ℕ
-unit_pages_of b = b.unit / 4096
+unit_pages_of b = b.unit / PAGE_BYTES
 
 abbrev pub unit_first_of : Bits → ℕ → ℕ
-unit_first_of b unit = b.base / 4096 + unit * unit_pages_of b
+unit_first_of b unit = b.base / PAGE_BYTES + unit * unit_pages_of b
 
 -- of the units of a range those keep their bits in which a page is pending; no other bit changes
 pub record ClearedBy (old new : Bits) (pending : ℕ → Bool) (first count : ℕ) : Type 0 where
   pub size : length new.bits ≡ length old.bits
   pub each : (unit : ℕ) → bit_of new.bits unit
-      ≡ (if in_range first count unit then bit_of old.bits unit && any_such pending (unit_first_of old unit) (unit_pages_of old) else bit_of old.bits unit)
+      ≡ (if in_range first count unit
+      then bit_of old.bits unit && any_such pending (unit_first_of old unit) (unit_pages_of old)
+      else bit_of old.bits unit)
 
 -- the kept bitmap is the boot's, but for the bits
 abbrev pub SameBits : Boot → Option Bits → Type 0
 SameBits boot None = boot.bits ≡ []
-SameBits boot (Some b) = (b.unit ≡ boot.unit) × (b.base ≡ boot.base) × (length b.bits ≡ length boot.bits)
+SameBits boot (Some b) =
+    (b.unit ≡ boot.unit) × (b.base ≡ boot.base) × (length b.bits ≡ length boot.bits)
 
 -- the bitmap says which units are unaccepted after calls
 pub record BitsAfter (boot : Boot) (calls : List ModuleCall) (bits : Option Bits) : Type 0 where
@@ -61,35 +64,36 @@ pub record BitsAfter (boot : Boot) (calls : List ModuleCall) (bits : Option Bits
 -- the pages of a run of units
 abbrev pub PagesOf : Option Bits → Units → Pages → Type 0
 PagesOf None run pages = ⊥
-PagesOf (Some b) run pages = (pages.first ≡ unit_first_of b run.first) × (pages.count ≡ run.count * unit_pages_of b) × (pages.first + pages.count < 2 ^ 40)
+PagesOf (Some b) run pages =
+    (pages.first ≡ unit_first_of b run.first) × (pages.count ≡ run.count * unit_pages_of b)
+    × (pages.first + pages.count < ADDRESS_END)
 
--- of a run's units those without a pending page were cleared, so many of them
-pub record ClearedRun (old new : Bits) (pending : ℕ → Bool) (run : Units) (cleared : ℕ) : Type 0 where
+-- the number of a run's units without a pending page
+abbrev pub cleared_count : Bits → (ℕ → Bool) → Units → ℕ
+cleared_count b pending run =
+    count_such (λ unit. not (any_such pending (unit_first_of b unit) (unit_pages_of b)))
+    run.first run.count
+
+-- of a run's units those without a pending page were cleared, this many of them
+pub record ClearedRun (old new : Bits) (pending : ℕ → Bool) (run : Units)
+    (cleared : ℕ) : Type 0 where
   pub unit : new.unit ≡ old.unit
   pub base : new.base ≡ old.base
   pub bits : ClearedBy old new pending run.first run.count
-  pub count : cleared ≡ count_such (λ unit. not (any_such pending (unit_first_of old unit) (unit_pages_of old))) run.first run.count
+  pub count : cleared ≡ cleared_count old pending run
 
 abbrev pub ClearedIn : Option Bits → Option Bits → (ℕ → Bool) → Units → ℕ → Type 0
 ClearedIn (Some old) (Some new) pending run cleared = ClearedRun old new pending run cleared
 ClearedIn None new pending run cleared = ⊥
 ClearedIn (Some old) None pending run cleared = ⊥
 
--- no claimed range meets the units, or this is the first that does
-abbrev pub MeetsNoneOf : List (Option Units) → Option Units → Type 0
-MeetsNoneOf ranges None = Unit {0}
-MeetsNoneOf ranges (Some units) = MeetsNone ranges units
-
-abbrev pub IsFirstMet : List (Option Units) → Option Units → Units → Type 0
-IsFirstMet ranges None met = ⊥
-IsFirstMet ranges (Some units) met = IsFirstToMeet ranges units met
-
 -- the maximal runs of numbers that pass a test, from one on and below `end`, rising
 abbrev pub AreRunsFrom : (ℕ → Bool) → ℕ → ℕ → List Units → Type 0
 AreRunsFrom test from end [] = first_run test from end ≡ None
-AreRunsFrom test from end (run ∷ runs) = (first_run test from end ≡ Some run) × AreRunsFrom test (units_end run) end runs
+AreRunsFrom test from end (run ∷ runs) =
+    (first_run test from end ≡ Some run) × AreRunsFrom test (units_end run) end runs
 
--- the run behind so many of a list, where the acceptance before it didn't stop
+-- the run behind this many of a list, where the acceptance before it didn't stop
 abbrev pub next_of : List Units → ℕ → RunEnd → Option Units
 next_of runs opened Whole = slice_get runs opened
 next_of runs opened (Stopped page) = None

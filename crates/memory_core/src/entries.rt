@@ -9,7 +9,8 @@ pub(crate) fn append(entries: &mut Vec<Entry>, last: &mut u128, turn: &mut Turn,
     requires room { vec_len entries.old < vec_capacity entries.old }
     requires clock { turn.old.clock < 2 ^ 65 }
     requires last { last.old < 2 ^ 65 }
-    ensures entries { entries.new.items ≡ entries.old.items ++ bare_entry turn.old last.old event ∷ [] }
+    ensures entries { entries.new.items
+        ≡ entries.old.items ++ bare_entry turn.old last.old event ∷ [] }
     ensures len { vec_len entries.new ≡ vec_len entries.old + 1 }
     ensures capacity { vec_capacity entries.old ≤ vec_capacity entries.new }
     ensures last { last.new ≡ max turn.old.clock last.old + 1 }
@@ -24,14 +25,5 @@ pub(crate) fn append(entries: &mut Vec<Entry>, last: &mut u128, turn: &mut Turn,
         event,
         reply: None,
     };
-    push_within(entries, entry);
-}
-
-fn push_within(entries: &mut Vec<Entry>, entry: Entry)
-    requires { vec_len entries.old < vec_capacity entries.old }
-    ensures items { entries.new.items ≡ entries.old.items ++ entry ∷ [] }
-    ensures len { vec_len entries.new ≡ vec_len entries.old + 1 }
-    ensures capacity { vec_capacity entries.old ≤ vec_capacity entries.new }
-{
-    let _ = entries.push(entry);
+    entries.push_reserved(entry);
 }

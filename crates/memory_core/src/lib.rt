@@ -8,4 +8,4 @@ mod pages;
 mod units;
 
 pub use memory::{Begin, Memory, Reported};
-pub use pages::{clear_run, run_pages};
+pub use pages::{clear_run, run_pages, stopped_page};

@@ -1,24 +1,23 @@
 //! What the memory lock holds.
-ghost use Rattle.std.specs.Prelude.{◌≡◌, ◌≢◌, ℕ, List, [], ◌++◌, ◌+◌, ◌^◌, ◌<◌, ◌≤◌, None, Some, Option, IsSome, IfSome, IfOk, OnOk, OnErr, max, map};
-ghost use Rattle.guest_base.specs.Search.{count_such};
+ghost use Rattle.std.specs.Prelude.{◌≡◌, ◌≢◌, ℕ, List, [], ◌+◌, ◌-◌, ◌^◌, ◌<◌, ◌≤◌, None, Some, Option, IfSome, IfOk, OnOk, OnErr, max};
+ghost use Rattle.std.specs.Option.{ForSome};
 ghost use Rattle.event_core.specs.declared.boot.Descriptor.{Descriptor};
-ghost use Rattle.event_core.specs.declared.event.Event.TheVariants.{Claim, Asked};
-ghost use Rattle.event_core.specs.declared.module_call.ModuleCall.{ModuleCall};
+ghost use Rattle.event_core.specs.declared.event.Event.TheVariants.{Asked};
 ghost use Rattle.event_core.specs.Map.{MapRules};
 ghost use Rattle.event_core.specs.Boot.{BootRight};
 ghost use Rattle.event_core.specs.Given.{FitsGiven};
 ghost use Rattle.event_core.specs.Table.{Bits};
 ghost use Rattle.event_core.specs.Runs.{state_in as first_state_of};
 ghost use Rattle.event_core.specs.Calls.{calls_of, SoundCalls};
-ghost use Rattle.event_core.specs.Claims.{Claimed, claim_of, in_the_way};
-ghost use Rattle.event_core.specs.MemoryRows.{page_state, run_of_claim, report_event, some_unaccepted};
+ghost use Rattle.event_core.specs.Claims.{Claimed, claim_of};
+ghost use Rattle.event_core.specs.MemoryRows.{page_state, report_event, some_unaccepted};
 ghost use Rattle.event_core.specs.Units.{bit_after, first_run, guarded_units, unit_pages};
 ghost use Rattle.page_module.specs.States.{state_in};
 ghost use Rattle.memory_core.specs.Bitmaps.{BitsAfter};
 ghost use Rattle.memory_core.specs.Value.{handed_to};
-ghost use Rattle.memory_core.specs.Steps.{last_stamp, unaccepted_count, Appends, BringsTo};
+ghost use Rattle.memory_core.specs.Steps.{last_stamp, unaccepted_count, claim_of_units, Appends, BringsTo, IsByteRange, MayBegin};
 
-use crate::claims::{OpenClaim, next_run_of, push_none, set_claim, take_claim, with_next};
+use crate::claims::{OpenClaim, next_run_of, with_next};
 use crate::entries::append;
 use crate::pages::{clear_run, run_pages, stopped_page};
 use crate::units::{
@@ -52,7 +51,7 @@ pub enum Begin {
 pub enum Reported {
     /// The claim goes on with the pages of its next run, which are out in this span.
     Next(Span),
-    /// The claim is closed, and has cleared the bits of so many units.
+    /// The claim is closed, and has cleared the bits of this many units.
     Closed(u64),
     /// The acceptance stopped, and the claim is closed.
     Stopped,
@@ -70,9 +69,8 @@ pub struct Memory {
     table: PageTable,
     /// None where the map has no unaccepted descriptor.
     bits: Option<Bitmap>,
-    accepting: Accepting,
-    /// The open claims, by processor.
-    claims: Vec<Option<OpenClaim>>,
+    /// The open claims.
+    accepting: Accepting<OpenClaim>,
     /// The list for the runs of the next claim; empty.
     spare: Vec<Units>,
     entries: Vec<Entry>,
@@ -93,14 +91,21 @@ impl Model for Memory {
 
     ghost use Rattle.memory_core.specs.StandsFor.{handed_for, IsSpare, StandsFor};
 
-    ghost view = { λ m. record { boot = m.boot.value; entries = m.entries.items; out = map handed_for m.claims.items; room = m.room } };
+    ghost view = { λ m. record {
+      boot = m.boot.value;
+      entries = m.entries.items;
+      out = map handed_for m.accepting;
+      room = m.room;
+    } };
 
-    ghost invariant = { λ m. StandsFor m.boot.value m.entries m.last m.table m.bits m.accepting m.claims.items m.unit_pages m.kept m.room
+    ghost invariant = { λ m.
+        StandsFor m.boot.value m.entries m.last m.table m.bits m.accepting
+        m.unit_pages m.kept m.room
         × IsSpare m.spare m.room };
 }
 
 impl Memory {
-    ghost use Rattle.memory_core.specs.Answers.{BegunBy, ReportedBy, IsBlocked, NoneOpen, OthersKeep};
+    ghost use Rattle.memory_core.specs.Answers.{BegunBy, ReportedBy, IsBlocked, GivesTable, OthersKeep, UsesOne};
 
     /// The memory of a boot, with no entry and no room. The table has the states of the pages after boot's calls, and no page is
     /// out; the bitmap has the bits after boot's calls.
@@ -112,27 +117,24 @@ impl Memory {
     ) -> Result<Memory, AllocError>
         requires right { (descriptors : List Descriptor) × (table : Option Bits) × (slots : ℕ)
             × MapRules descriptors boot.now.hosts × FitsGiven descriptors table
-            × BootRight descriptors boot.now.hosts table slots boot.now.areas boot.now.cpus boot.now }
+            × BootRight descriptors boot.now.hosts table slots
+            boot.now.areas boot.now.cpus boot.now }
         requires sound { SoundCalls (first_state_of boot.now.ram) boot.now.calls }
         requires cpus { boot.now.cpus ≤ 64 }
-        requires states { (page : ℕ) → state_in table.runs page ≡ page_state boot.now boot.now.calls page }
+        requires states { (page : ℕ) → state_in table.runs page
+            ≡ page_state boot.now boot.now.calls page }
         requires none_out { table.out ≡ [] }
         requires bits { BitsAfter boot.now boot.now.calls bits }
         ensures boot { IfOk result (λ m. m.boot ≡ boot.now) }
         ensures entries { IfOk result (λ m. m.entries ≡ []) }
         ensures out { IfOk result (λ m. (cpu : ℕ) → handed_to m cpu ≡ None) }
     {
-        let mut claims = Vec::with_capacity(alloc, boot.cpus as usize)?;
-        for _ in 0..boot.cpus {
-            push_none(&mut claims);
-        }
         Ok(Memory {
             alloc,
             boot: Snapshot::of(boot),
             table,
             bits,
             accepting: Accepting::new(),
-            claims,
             spare: Vec::new(alloc),
             entries: Vec::new(alloc),
             last: 0,
@@ -143,13 +145,15 @@ impl Memory {
     }
 
     /// Takes room for the next step, and for an acceptance over `units` units until it closes. `Worn` comes exactly where the last
-    /// stamp is 2^64 or more, and names it. Whatever the answer, nothing else changes.
+    /// stamp is 2^64 or more, and names it. After an error nothing has changed.
     pub fn reserve(&mut self, alloc: Global, units: u64) -> Result<(), NoRoom>
-        ensures ok { OnOk result (units < self.new.room) }
-        ensures worn { 2 ^ 64 ≤ last_stamp self.old.entries → result ≡ Err (NoRoom.Worn (last_stamp self.old.entries)) }
-        ensures fresh { last_stamp self.old.entries < 2 ^ 64 → (stamp : ℕ) → result ≢ Err (NoRoom.Worn stamp) }
-        ensures kept { self.new ≡ record self.old { room = self.new.room } }
-        ensures room_kept { self.old.room ≤ self.new.room }
+        ensures ok { OnOk result (self.new
+            ≡ record self.old { room = max self.old.room (units + 1) }) }
+        ensures failed { OnErr result (self.new ≡ self.old) }
+        ensures worn { 2 ^ 64 ≤ last_stamp self.old.entries
+            → result ≡ Err (NoRoom.Worn (last_stamp self.old.entries)) }
+        ensures fresh { last_stamp self.old.entries < 2 ^ 64
+            → (stamp : ℕ) → result ≢ Err (NoRoom.Worn stamp) }
     {
         if self.last >= 1 << 64 {
             return Err(NoRoom::Worn(self.last));
@@ -161,9 +165,9 @@ impl Memory {
     }
 
     fn take_room(&mut self, alloc: Global, units: u64) -> Result<(), AllocError>
-        ensures ok { OnOk result (units < self.new.room) }
-        ensures kept { self.new ≡ record self.old { room = self.new.room } }
-        ensures room_kept { self.old.room ≤ self.new.room }
+        ensures ok { OnOk result (self.new
+            ≡ record self.old { room = max self.old.room (units + 1) }) }
+        ensures failed { OnErr result (self.new ≡ self.old) }
     {
         if self.room <= units {
             let room = units.checked_add(1).ok_or(AllocError)?;
@@ -180,27 +184,27 @@ impl Memory {
     /// The units that an acceptance of the `len` bytes from the address `start` on claims, the guard among them. None exactly where
     /// there are none.
     pub fn claim_units(&self, start: u64, len: u64) -> Option<Units>
-        requires some { 1 ≤ len }
-        requires end { start + len ≤ 2 ^ 40 }
+        requires { IsByteRange start len }
         ensures units { result ≡ guarded_units self.now.boot start len }
-        ensures end { IfSome result (λ u. u.first + u.count < 2 ^ 64) }
     {
         guarded_units_of(&self.bits, start, len)
     }
 
     /// The first maximal run of unaccepted units from `from` on and below `to`, clipped to these.
     pub fn next_run(&self, from: Unit, to: Unit) -> Option<Units>
-        ensures { result ≡ first_run (bit_after self.now.boot (calls_of self.now.boot self.now.entries)) from.0 to.0 }
+        ensures { result ≡ first_run
+            (bit_after self.now.boot (calls_of self.now.boot self.now.entries)) from.0 to.0 }
     {
         run_from(&self.bits, from.0, to.0)
     }
 
-    /// How many of the units are unaccepted: for so many there has to be room where they are accepted.
-    pub fn unaccepted_units(&self, units: Units) -> u64
-        requires { units.first + units.count < 2 ^ 64 }
-        ensures { result ≡ count_such (bit_after self.now.boot (calls_of self.now.boot self.now.entries)) units.first units.count }
+    /// The number of unaccepted units among those that an acceptance of the bytes claims: for this many there has to be room.
+    pub fn unaccepted_units(&self, start: u64, len: u64) -> u64
+        requires { IsByteRange start len }
+        ensures { result ≡ unaccepted_count self.now.boot self.now.entries
+            (guarded_units self.now.boot start len) }
     {
-        count_unaccepted(&self.bits, units)
+        count_unaccepted(&self.bits, guarded_units_of(&self.bits, start, len))
     }
 
     /// The pages of a unit.
@@ -221,19 +225,17 @@ impl Memory {
     /// the first run of unaccepted ones. There has to be room for as many units as are unaccepted.
     ///
     /// `Blocked` comes exactly where an open claim meets the guarded units, and names that claim's: nothing changes then. `Clear`
-    /// comes exactly where none is met and no guarded unit is unaccepted.
+    /// comes exactly where none is met and no guarded unit is unaccepted; it uses the room of one entry. With `Claimed` all the
+    /// room goes with the claim, which needs no more until it closes.
     pub fn begin_accept(&mut self, turn: &mut Turn, start: u64, len: u64) -> Begin
-        requires some { 1 ≤ len }
-        requires end { start + len ≤ 2 ^ 40 }
-        requires cpu { turn.old.cpu.0 < self.old.boot.cpus }
-        requires free { claim_of self.old.boot self.old.entries turn.old.cpu.0 ≡ None }
-        requires clock { turn.old.clock < 2 ^ 64 }
-        requires last { last_stamp self.old.entries < 2 ^ 64 }
-        requires room { unaccepted_count self.old.boot self.old.entries (guarded_units self.old.boot start len) < self.old.room }
-        ensures begun { BegunBy self.old self.new turn.old (guarded_units self.old.boot start len) result }
+        requires range { IsByteRange start len }
+        requires step { MayBegin self.old turn.old (unaccepted_count
+            self.old.boot self.old.entries (guarded_units self.old.boot start len)) }
+        ensures begun { BegunBy self.old self.new turn.old
+            (guarded_units self.old.boot start len) result }
         ensures blocked { IsBlocked result → (self.new ≡ self.old) × (turn.new ≡ turn.old) }
         ensures appends { ¬ IsBlocked result → Appends self.old self.new turn.old turn.new
-            (Claim None (guarded_units self.old.boot start len) (run_of_claim self.old.boot self.old.entries (guarded_units self.old.boot start len))) }
+            (claim_of_units self.old (guarded_units self.old.boot start len)) }
         ensures others { OthersKeep self.old self.new turn.old.cpu.0 }
     {
         let units = guarded_units_of(&self.bits, start, len);
@@ -260,10 +262,9 @@ impl Memory {
                     ticket: span.ticket(),
                     room: self.room - 1 - run.count,
                 };
-                self.accepting.add(turn.cpu, units);
                 self.kept += claim.room + 1;
                 self.room = 0;
-                set_claim(&mut self.claims, turn.cpu, Some(claim));
+                self.accepting.add(turn.cpu, claim);
                 Begin::Claimed(span)
             }
             None => {
@@ -277,18 +278,23 @@ impl Memory {
     /// their states by `calls`, with this end. The bits of the units without a pending page become clear.
     ///
     /// `Next` has the pages of the claim's next run. Where none is left, or the acceptance stopped, the claim closes: `Stopped`
-    /// comes exactly where `end` is `Stopped`.
+    /// comes exactly where `end` is `Stopped`. The room that a report needs was taken with the claim.
     pub fn report(&mut self, turn: &mut Turn, span: Span, calls: Calls, end: RunEnd) -> Reported
-        requires out { IfSome (handed_to self.old turn.old.cpu.0) (λ handed. handed.ticket ≡ span.ticket) }
-        requires brings { (claim : Claimed) × (claim_of self.old.boot self.old.entries turn.old.cpu.0 ≡ Some claim)
-            × BringsTo self.old.boot (calls_of self.old.boot self.old.entries) claim.run span calls end }
+        requires out { IfSome (handed_to self.old turn.old.cpu.0) (λ h. h.ticket ≡ span.ticket) }
+        requires brings { (claim : Claimed)
+            × (claim_of self.old.boot self.old.entries turn.old.cpu.0 ≡ Some claim)
+            × BringsTo self.old.boot (calls_of self.old.boot self.old.entries)
+            claim.run span calls end }
         requires clock { turn.old.clock ≤ max (2 ^ 64) (last_stamp self.old.entries) }
-        ensures reported { (claim : Claimed) → claim_of self.old.boot self.old.entries turn.old.cpu.0 ≡ Some claim → ReportedBy self.old self.new turn.old claim calls result }
-        ensures appends { (claim : Claimed) → claim_of self.old.boot self.old.entries turn.old.cpu.0 ≡ Some claim
+        ensures reported { (claim : Claimed)
+            → claim_of self.old.boot self.old.entries turn.old.cpu.0 ≡ Some claim
+            → ReportedBy self.old self.new turn.old claim calls result }
+        ensures appends { (claim : Claimed)
+            → claim_of self.old.boot self.old.entries turn.old.cpu.0 ≡ Some claim
             → Appends self.old self.new turn.old turn.new (report_event self.old.boot claim calls) }
         ensures others { OthersKeep self.old self.new turn.old.cpu.0 }
     {
-        let claim = take_claim(&mut self.claims, turn.cpu);
+        let claim = self.accepting.remove(turn.cpu);
         let cleared = claim.cleared + clear_run(&mut self.bits, &span, claim.run);
         self.table.put(span);
         let next = next_run_of(&claim, end);
@@ -303,29 +309,25 @@ impl Memory {
             Some(run) => {
                 let span = self.table.take(run_pages(&self.bits, run));
                 let claim = with_next(claim, run, cleared, span.ticket());
-                set_claim(&mut self.claims, turn.cpu, Some(claim));
+                self.accepting.add(turn.cpu, claim);
                 self.kept -= run.count;
                 self.room = 0;
                 Reported::Next(span)
             }
             None => {
-                self.accepting.remove(turn.cpu);
                 self.kept -= claim.room + 1;
                 closed_by(end, cleared)
             }
         }
     }
 
-    /// Whether a guarded unit of a range of bytes is unaccepted.
+    /// Whether a guarded unit of a range of bytes is unaccepted. It uses the room of one entry.
     pub fn query(&mut self, turn: &mut Turn, start: u64, len: u64) -> bool
-        requires some { 1 ≤ len }
-        requires end { start + len ≤ 2 ^ 40 }
-        requires cpu { turn.old.cpu.0 < self.old.boot.cpus }
-        requires free { claim_of self.old.boot self.old.entries turn.old.cpu.0 ≡ None }
-        requires clock { turn.old.clock < 2 ^ 64 }
-        requires last { last_stamp self.old.entries < 2 ^ 64 }
-        requires room { 0 < self.old.room }
-        ensures found { result ≡ some_unaccepted self.old.boot self.old.entries (guarded_units self.old.boot start len) }
+        requires range { IsByteRange start len }
+        requires step { MayBegin self.old turn.old 0 }
+        ensures found { result ≡ some_unaccepted self.old.boot self.old.entries
+            (guarded_units self.old.boot start len) }
+        ensures uses { UsesOne self.old self.new }
         ensures appends { Appends self.old self.new turn.old turn.new (Asked result) }
         ensures others { OthersKeep self.old self.new turn.old.cpu.0 }
     {
@@ -340,11 +342,11 @@ impl Memory {
         found
     }
 
-    /// The page table and the entries. Where no claim is open, no page is out, and the states are those after all entries.
+    /// The page table and the entries. The pages of the open claims' runs are out, and every other page is in, in its state after
+    /// all entries.
     pub fn into_parts(self) -> (PageTable, Entries)
         ensures entries { result.1 ≡ self.entries }
-        ensures none_out { NoneOpen self → result.0.out ≡ [] }
-        ensures states { NoneOpen self → (page : ℕ) → state_in result.0.runs page ≡ page_state self.boot (calls_of self.boot self.entries) page }
+        ensures table { GivesTable self result.0 }
     {
         let Memory {
             alloc: _,
@@ -352,7 +354,6 @@ impl Memory {
             table,
             bits: _,
             accepting: _,
-            claims: _,
             spare: _,
             entries,
             last: _,

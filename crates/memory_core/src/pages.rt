@@ -1,11 +1,11 @@
 //! Pages of units.
-ghost use Rattle.std.specs.Prelude.{◌≡◌, ℕ, ◌+◌, ◌*◌, ◌^◌, ◌<◌, ◌≤◌, true, None, Some, not};
+ghost use Rattle.std.specs.Prelude.{◌≡◌, ℕ, ◌+◌, ◌*◌, ◌^◌, ◌<◌, ◌≤◌, true, None, Some};
 ghost use Rattle.guest_base.specs.Ranges.{in_range};
-ghost use Rattle.guest_base.specs.Search.{any_such, count_such};
+ghost use Rattle.guest_base.specs.Search.{any_such};
 ghost use Rattle.event_core.specs.Units.{unit_count, bit_of};
 ghost use Rattle.accept_sizes.specs.Accepts.{pending_of};
 ghost use Rattle.accept_sizes.specs.Ends.{stopped_at};
-ghost use Rattle.memory_core.specs.Bitmaps.{bits_in, unit_pages_of, unit_first_of, ClearedBy, PagesOf, ClearedIn};
+ghost use Rattle.memory_core.specs.Bitmaps.{bits_in, unit_pages_of, unit_first_of, cleared_count, ClearedBy, PagesOf, ClearedIn};
 
 use accept_sizes::RunEnd;
 use guest_base::{Page, Pages, Units};
@@ -26,10 +26,20 @@ fn pages_of(bits: &Bitmap, units: Units) -> Pages
     }
 }
 
+/// The end of units of a bitmap, all of which lie far below 2^64.
+fn end_of(bits: &Bitmap, units: Units) -> u64
+    requires { units.first + units.count ≤ unit_count bits.now.bits }
+    ensures { result ≡ units.first + units.count }
+{
+    let _ = bits.unit();
+    units.first + units.count
+}
+
 /// The pages of a run of unaccepted units, of which there is one at least.
 pub fn run_pages(bits: &Option<Bitmap>, run: Units) -> Pages
     requires some { 0 < run.count }
-    requires set { (unit : ℕ) → in_range run.first run.count unit ≡ true → bits_in bits.now unit ≡ true }
+    requires set { (unit : ℕ) → in_range run.first run.count unit ≡ true
+        → bits_in bits.now unit ≡ true }
     ensures { PagesOf bits.now run result }
 {
     match bits {
@@ -50,16 +60,15 @@ fn has_pending(span: &Span, first: u64, count: u64) -> bool
 
 /// Clears the bits of the units in which no page of the span is pending, and tells how many.
 fn clear_accepted(bits: &mut Bitmap, span: &Span, run: Units) -> u64
-    requires inside { run.first + run.count ≤ unit_count bits.old.bits }
-    requires end { run.first + run.count < 2 ^ 64 }
+    requires { run.first + run.count ≤ unit_count bits.old.bits }
     ensures unit { bits.new.unit ≡ bits.old.unit }
     ensures base { bits.new.base ≡ bits.old.base }
     ensures cleared { ClearedBy bits.old bits.new (pending_of span.now) run.first run.count }
     ensures few { result ≤ run.count }
-    ensures count { result ≡ count_such (λ unit. not (any_such (pending_of span.now) (unit_first_of bits.old unit) (unit_pages_of bits.old))) run.first run.count }
+    ensures count { result ≡ cleared_count bits.old (pending_of span.now) run }
 {
     let mut cleared = 0;
-    for unit in run.first..run.first + run.count {
+    for unit in run.first..end_of(bits, run) {
         let pages = pages_of(
             bits,
             Units {
@@ -82,8 +91,8 @@ fn clear_accepted(bits: &mut Bitmap, span: &Span, run: Units) -> u64
 /// `accept_memory`, which clears the bits of the units that it accepted).
 pub fn clear_run(bits: &mut Option<Bitmap>, span: &Span, run: Units) -> u64
     requires some { 0 < run.count }
-    requires end { run.first + run.count < 2 ^ 64 }
-    requires set { (unit : ℕ) → in_range run.first run.count unit ≡ true → bits_in bits.old unit ≡ true }
+    requires set { (unit : ℕ) → in_range run.first run.count unit ≡ true
+        → bits_in bits.old unit ≡ true }
     ensures cleared { ClearedIn bits.old bits.new (pending_of span.now) run result }
     ensures few { result ≤ run.count }
 {
@@ -94,7 +103,7 @@ pub fn clear_run(bits: &mut Option<Bitmap>, span: &Span, run: Units) -> u64
 }
 
 /// The page at which an acceptance stopped.
-pub(crate) fn stopped_page(end: RunEnd) -> Option<Page>
+pub fn stopped_page(end: RunEnd) -> Option<Page>
     ensures { result ≡ stopped_at end }
 {
     match end {

@@ -1,12 +1,13 @@
 //! Units of the kept bitmap.
 ghost use Rattle.std.specs.Prelude.{◌≡◌, ℕ, [], ◌+◌, ◌-◌, ◌^◌, ◌<◌, ◌≤◌, None, Some, Option, IfSome, vec_capacity};
-ghost use Rattle.std.specs.Option.{ForSome, option_and_then};
+ghost use Rattle.std.specs.Option.{ForSome, option_and_then, option_map_or};
 ghost use Rattle.guest_base.specs.Search.{count_such};
 ghost use Rattle.guest_base.specs.declared.memory.Units.{Units};
 ghost use Rattle.event_core.specs.Units.{first_run, units_end};
-ghost use Rattle.accepting_ranges.specs.Claims.{range_of, MeetsNone, IsFirstToMeet};
-ghost use Rattle.memory_core.specs.Bitmaps.{bits_in, guarded_by, both_or_none, any_in, MeetsNoneOf, IsFirstMet, AreRunsFrom};
+ghost use Rattle.memory_core.specs.Bitmaps.{bits_in, guarded_by, both_or_none, any_in, AreRunsFrom};
+ghost use Rattle.memory_core.specs.OpenClaims.{MeetsNoOther, IsFirstMet};
 
+use crate::claims::OpenClaim;
 use accepting_ranges::Accepting;
 use guest_base::{Unit, Units};
 use unaccepted_bitmap::Bitmap;
@@ -37,7 +38,8 @@ pub(crate) fn run_from(bits: &Option<Bitmap>, from: u64, end: u64) -> Option<Uni
 /// The first run of unaccepted units among units.
 pub(crate) fn first_run_of(bits: &Option<Bitmap>, units: Option<Units>) -> Option<Units>
     requires { ForSome units (λ u. u.first + u.count < 2 ^ 64) }
-    ensures { result ≡ option_and_then (λ (u : Units). first_run (bits_in bits.now) u.first (u.first + u.count)) units }
+    ensures { result ≡ option_and_then
+        (λ (u : Units). first_run (bits_in bits.now) u.first (u.first + u.count)) units }
 {
     match units {
         Some(units) => run_from(bits, units.first, units.first + units.count),
@@ -67,10 +69,10 @@ pub(crate) fn has_unaccepted(bits: &Option<Bitmap>, start: u64, len: u64) -> boo
     }
 }
 
-/// The first claimed range that meets the units.
-pub(crate) fn overlap_of(accepting: &Accepting, units: Option<Units>) -> Option<Units>
-    ensures some { IfSome result (λ range. IsFirstMet accepting.now units range) }
-    ensures none { result ≡ None → MeetsNoneOf accepting.now units }
+/// The units of the first claim that meets the units.
+pub(crate) fn overlap_of(accepting: &Accepting<OpenClaim>, units: Option<Units>) -> Option<Units>
+    ensures some { IfSome result (λ met. IsFirstMet accepting.now units met) }
+    ensures none { result ≡ None → MeetsNoOther accepting.now units }
 {
     match units {
         Some(units) => accepting.overlaps(units),
@@ -96,8 +98,19 @@ pub(crate) fn runs_behind(bits: &Option<Bitmap>, units: Units, run: Units, runs:
     }
 }
 
-/// How many of the units are unaccepted.
-pub(crate) fn count_unaccepted(bits: &Option<Bitmap>, units: Units) -> u64
+/// The number of unaccepted units among units.
+pub(crate) fn count_unaccepted(bits: &Option<Bitmap>, units: Option<Units>) -> u64
+    requires { ForSome units (λ u. u.first + u.count < 2 ^ 64) }
+    ensures { result
+        ≡ option_map_or (λ (u : Units). count_such (bits_in bits.now) u.first u.count) units 0 }
+{
+    match units {
+        Some(units) => count_set(bits, units),
+        None => 0,
+    }
+}
+
+fn count_set(bits: &Option<Bitmap>, units: Units) -> u64
     requires { units.first + units.count < 2 ^ 64 }
     ensures { result ≡ count_such (bits_in bits.now) units.first units.count }
 {

@@ -10,12 +10,14 @@ use Rattle.guest_base.specs.declared.memory.Pages.{Pages}
 use Rattle.guest_base.specs.declared.memory.PageRun.{PageRun}
 use Rattle.guest_base.specs.declared.memory.PageState.{PageState}
 use Rattle.guest_base.specs.declared.memory.PageState.TheVariants.{Accepted}
-use Rattle.page_module.specs.States.{state_in}
+use Rattle.event_core.specs.Runs.{state_in}
 use Rattle.page_module.specs.Spans.{runs_now, RunsFrom}
 use Rattle.page_module.specs.Tables.{Rising, Differing, begins_run, run_count, same_or_none, same_state}
-use Rattle.page_module.specs.Building.{common, run_end}
+use Rattle.page_module.specs.Building.{common}
+use Rattle.event_core.specs.Runs.{run_end}
 use Rattle.page_module.specs.declared.span.TakenRun.{TakenRun}
-use Rattle.page_module.proofs.Tests.{in_range-within, in_range-below, in_range-past, where_is, below, within, past}
+use Rattle.guest_base.proofs.RangeLemmas.{in_range-intro, in_range-below, in_range-past}
+use Rattle.page_module.proofs.RangeCases.{where_is, below, within, past}
 use Rattle.page_module.proofs.JoinLemmas.{state_in-append, same_state-true}
 use Rattle.page_module.proofs.CutLemmas.{rising-below}
 
@@ -89,10 +91,10 @@ common-states pages x page =
       | inl l ↦ rw (common-some pages x l, empty-range first page)
           (elim (where_is pages.first pages.count page) [
             | below u ↦ rw (in_range-below pages.first pages.count page u, in_range-below first (end - first) page (omega arith)) refl
-            | within u v ↦ rw (in_range-within pages.first pages.count page u v)
+            | within u v ↦ rw (in_range-intro pages.first pages.count page u v)
                 (elim (where_is x.pages.first x.pages.count page) [
                   | below w ↦ rw (in_range-below x.pages.first x.pages.count page w, in_range-below first (end - first) page (omega arith)) refl
-                  | within w z ↦ rw (in_range-within x.pages.first x.pages.count page w z, in_range-within first (end - first) page (omega arith) (omega arith)) refl
+                  | within w z ↦ rw (in_range-intro x.pages.first x.pages.count page w z, in_range-intro first (end - first) page (omega arith) (omega arith)) refl
                   | past w ↦ rw (in_range-past x.pages.first x.pages.count page w, in_range-past first (end - first) page (omega arith)) refl
                 ])
             | past u ↦ rw (in_range-past pages.first pages.count page u, in_range-past first (end - first) page (omega arith)) refl
@@ -100,7 +102,7 @@ common-states pages x page =
       | inr l ↦ rw (common-none pages x l)
           (elim (where_is pages.first pages.count page) [
             | below u ↦ rw (in_range-below pages.first pages.count page u) refl
-            | within u v ↦ rw (in_range-within pages.first pages.count page u v)
+            | within u v ↦ rw (in_range-intro pages.first pages.count page u v)
                 (elim (where_is x.pages.first x.pages.count page) [
                   | below w ↦ rw (in_range-below x.pages.first x.pages.count page w) refl
                   | within w z ↦ absurd (omega arith)
@@ -230,7 +232,7 @@ copies-length pages meant at from (x ∷ xs) h d a b c here same f =
     let behind : (page : ℕ) → run_end x ≤ page → state_in (x ∷ xs) page ≡ state_in xs page =
     λ page l. rw (in_range-past x.pages.first x.pages.count page l) refl in
     let inside : (page : ℕ) → x.pages.first ≤ page → page < run_end x → state_in (x ∷ xs) page ≡ Some x.state =
-    λ page l m. rw (in_range-within x.pages.first x.pages.count page l m) refl in
+    λ page l m. rw (in_range-intro x.pages.first x.pages.count page l m) refl in
     elim (cases_lt first end) [
       | inl l ↦
           let e = next-first pages at x xs h.3 a (omega arith) (omega arith) (here at (omega arith) (omega arith)) in

@@ -2,15 +2,17 @@
 use Rattle.std.proofs.Common.{◌≡◌, ℕ, ◌+◌, ◌-◌, ◌^◌, ◌<◌, ◌≤◌, List, [], ◌∷◌, ◌++◌, Option, None, Some, true, false, length, max, min, if◌then◌else◌, arith, refl, sym, ap, ◌∙◌, inl, inr, length-append}
 use Rattle.std.specs.Option.{option_or}
 use Rattle.std.specs.List.{flat_map}
-use Rattle.std.proofs.lemmas.Bool.{cases_lt, lt-ltb, le-ltb}
+use Rattle.std.proofs.lemmas.Bool.{cases_Bool, cases_lt, lt-ltb, le-ltb}
 use Rattle.guest_base.specs.Ranges.{in_range}
 use Rattle.guest_base.specs.declared.memory.Pages.{Pages}
 use Rattle.guest_base.specs.declared.memory.PageRun.{PageRun}
 use Rattle.guest_base.specs.declared.memory.PageState.{PageState}
-use Rattle.page_module.specs.States.{state_in}
+use Rattle.event_core.specs.Runs.{state_in}
 use Rattle.page_module.specs.Tables.{Rising}
-use Rattle.page_module.specs.Building.{part, cut, run_end, RunEnds}
-use Rattle.page_module.proofs.Tests.{in_range-within, in_range-below, in_range-past, where_is, below, within, past}
+use Rattle.page_module.specs.Building.{part, cut, RunEnds}
+use Rattle.event_core.specs.Runs.{run_end}
+use Rattle.guest_base.proofs.RangeLemmas.{in_range-intro, in_range-below, in_range-past}
+use Rattle.page_module.proofs.RangeCases.{where_is, below, within, past}
 use Rattle.page_module.proofs.JoinLemmas.{state_in-append, end_after}
 
 -- runs that rise
@@ -48,7 +50,8 @@ rising-past from page (x ∷ xs) h l =
 pub part-states : (run : PageRun) (first end page : ℕ) → state_in (part run first end) page ≡ (if in_range first (end - first) page then Some run.state else None)
 part-states run first end page =
     elim (cases_lt first end) [
-      | inl l ↦ rw (lt-ltb first end l) refl
+      | inl l ↦ rw (lt-ltb first end l)
+          (elim (cases_Bool (in_range first (end - first) page)) [ inl t ↦ rw t refl | inr f ↦ rw f refl ])
       | inr l ↦ rw (le-ltb first end l)
           (elim (cases_lt page first) [
             | inl u ↦ rw (in_range-below first (end - first) page u) refl
@@ -100,8 +103,8 @@ cut-states pages run page =
               in_range-below run.pages.first (min (run_end run) pages.first - run.pages.first) page v,
             ) refl
             | within v w ↦ rw (
-              in_range-within run.pages.first run.pages.count page v w,
-              in_range-within run.pages.first (min (run_end run) pages.first - run.pages.first) page v (omega arith),
+              in_range-intro run.pages.first run.pages.count page v w,
+              in_range-intro run.pages.first (min (run_end run) pages.first - run.pages.first) page v (omega arith),
             ) refl
             | past v ↦ rw (
               in_range-past run.pages.first run.pages.count page v,
@@ -109,7 +112,7 @@ cut-states pages run page =
             ) refl
           ])
       | within u v ↦ rw (
-        in_range-within pages.first pages.count page u v,
+        in_range-intro pages.first pages.count page u v,
         left-none page u,
         in_range-below (max run.pages.first (pages.first + pages.count)) (run_end run - max run.pages.first (pages.first + pages.count)) page (omega arith),
       ) refl
@@ -120,8 +123,8 @@ cut-states pages run page =
               in_range-below (max run.pages.first (pages.first + pages.count)) (run_end run - max run.pages.first (pages.first + pages.count)) page (omega arith),
             ) refl
             | within v w ↦ rw (
-              in_range-within run.pages.first run.pages.count page v w,
-              in_range-within (max run.pages.first (pages.first + pages.count)) (run_end run - max run.pages.first (pages.first + pages.count)) page (omega arith) (omega arith),
+              in_range-intro run.pages.first run.pages.count page v w,
+              in_range-intro (max run.pages.first (pages.first + pages.count)) (run_end run - max run.pages.first (pages.first + pages.count)) page (omega arith) (omega arith),
             ) refl
             | past v ↦ rw (in_range-past run.pages.first run.pages.count page v, right-none page v) refl
           ])

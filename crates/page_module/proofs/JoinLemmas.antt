@@ -1,5 +1,5 @@
 -- Lemmas on runs that are written anew, one after another.
-use Rattle.std.proofs.Common.{◌≡◌, ◌≢◌, ℕ, ◌+◌, ◌<◌, ◌≤◌, List, [], ◌∷◌, ◌++◌, Option, Some, true, false, fold, ◌==◌, if◌then◌else◌, arith, refl, sym, ap, ◌∙◌, inl, inr, append_assoc}
+use Rattle.std.proofs.Common.{◌≡◌, ◌≢◌, ℕ, ◌+◌, ◌<◌, ◌≤◌, List, [], ◌∷◌, ◌++◌, Option, Some, true, false, fold, ◌==◌, arith, refl, sym, ap, ◌∙◌, inl, inr, append_assoc}
 use Rattle.std.specs.Option.{option_or}
 use Rattle.std.proofs.lemmas.Bool.{cases_Bool}
 use Rattle.std.proofs.lemmas.Bool.Decides.{nat_tests}
@@ -8,10 +8,12 @@ use Rattle.guest_base.specs.Ranges.{in_range}
 use Rattle.guest_base.specs.declared.memory.PageRun.{PageRun}
 use Rattle.guest_base.specs.declared.memory.PageState.{PageState}
 use Rattle.guest_base.specs.declared.memory.PageState.TheVariants.{Pending, Accepted, Shared}
-use Rattle.page_module.specs.States.{state_in}
+use Rattle.event_core.specs.Runs.{state_in, grown}
 use Rattle.page_module.specs.Tables.{same_state, Rising, Differing}
-use Rattle.page_module.specs.Building.{continues, grown, both, joined, run_end, RunEnds}
-use Rattle.page_module.proofs.Tests.{in_range-within, in_range-below, in_range-past, where_is, below, within, past}
+use Rattle.page_module.specs.Building.{continues, both, joined, RunEnds}
+use Rattle.event_core.specs.Runs.{run_end}
+use Rattle.guest_base.proofs.RangeLemmas.{in_range-intro, in_range-below, in_range-past}
+use Rattle.page_module.proofs.RangeCases.{where_is, below, within, past}
 
 pub joined-snoc : (xs : List PageRun) (x r : PageRun) → joined (xs ++ x ∷ []) r ≡ xs ++ both x r
 joined-snoc [] x r = refl
@@ -21,9 +23,7 @@ joined-snoc (y ∷ z ∷ zs) x r = ap (λ (l : List PageRun). y ∷ l) (joined-s
 pub state_in-append : (xs ys : List PageRun) (page : ℕ) → state_in (xs ++ ys) page ≡ option_or (state_in xs page) (state_in ys page)
 state_in-append [] ys page = refl
 state_in-append (x ∷ xs) ys page =
-    elim (in_range x.pages.first x.pages.count page) as
-    (λ b. (if b then Some x.state else state_in (xs ++ ys) page) ≡ option_or (if b then Some x.state else state_in xs page) (state_in ys page))
-    [ true ↦ refl | false ↦ state_in-append xs ys page ]
+    elim (cases_Bool (in_range x.pages.first x.pages.count page)) [ inl t ↦ rw t refl | inr f ↦ rw f (state_in-append xs ys page) ]
 
 pub same_state-true : (a b : PageState) → same_state a b ≡ true → a ≡ b
 same_state-true Pending Pending e = refl
@@ -79,13 +79,13 @@ both-states x r page =
             in_range-below x.pages.first x.pages.count page u,
             in_range-below r.pages.first r.pages.count page (omega arith),
           ) refl
-          | within u v ↦ rw (in_range-within x.pages.first (x.pages.count + r.pages.count) page u (omega arith), in_range-within x.pages.first x.pages.count page u v) refl
+          | within u v ↦ rw (in_range-intro x.pages.first (x.pages.count + r.pages.count) page u (omega arith), in_range-intro x.pages.first x.pages.count page u v) refl
           | past u ↦ elim (where_is r.pages.first r.pages.count page) [
             | below v ↦ absurd (omega arith)
             | within v w ↦ rw (
-              in_range-within x.pages.first (x.pages.count + r.pages.count) page (omega arith) (omega arith),
+              in_range-intro x.pages.first (x.pages.count + r.pages.count) page (omega arith) (omega arith),
               in_range-past x.pages.first x.pages.count page u,
-              in_range-within r.pages.first r.pages.count page v w,
+              in_range-intro r.pages.first r.pages.count page v w,
             ) (ap (λ (s : PageState). Some s) g.same)
             | past v ↦ rw (
               in_range-past x.pages.first (x.pages.count + r.pages.count) page (omega arith),
@@ -99,7 +99,7 @@ joined-states : (xs : List PageRun) (r : PageRun) (page : ℕ) → state_in (joi
 joined-states [] r page = refl
 joined-states (x ∷ []) r page = both-states x r page
 joined-states (x ∷ y ∷ ys) r page =
-    ap (λ (o : Option PageState). if in_range x.pages.first x.pages.count page then Some x.state else o) (joined-states (y ∷ ys) r page)
+    elim (cases_Bool (in_range x.pages.first x.pages.count page)) [ inl t ↦ rw t refl | inr f ↦ rw f (joined-states (y ∷ ys) r page) ]
 
 -- writing runs anew changes no state
 pub fold-states : (acc xs : List PageRun) (page : ℕ) → state_in (fold joined acc xs) page ≡ state_in (acc ++ xs) page

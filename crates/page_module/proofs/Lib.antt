@@ -1,4 +1,5 @@
-pub mod Tests
+pub mod RangeCases
+pub mod MapLemmas
 pub mod SpanLemmas
 pub mod ScanLemmas
 pub mod SpanWithin
@@ -10,3 +11,4 @@ pub mod PlaceLemmas
 pub mod OutLemmas
 pub mod TableLemmas
 pub mod PutLemmas
+pub mod MaximalLemmas

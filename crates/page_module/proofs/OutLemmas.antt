@@ -8,7 +8,7 @@ use Rattle.guest_base.specs.Ranges.{in_range}
 use Rattle.guest_base.specs.declared.memory.Pages.{Pages}
 use Rattle.guest_base.specs.declared.memory.PageRun.{PageRun}
 use Rattle.guest_base.specs.declared.memory.PageState.{PageState}
-use Rattle.page_module.specs.States.{state_in}
+use Rattle.event_core.specs.Runs.{state_in}
 use Rattle.page_module.specs.Tables.{is_out, without, same_ticket, Apart}
 use Rattle.page_module.specs.Building.{places, AllOut}
 use Rattle.page_module.specs.declared.ticket.Ticket.{Ticket}

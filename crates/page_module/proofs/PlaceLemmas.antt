@@ -1,5 +1,5 @@
 -- Lemmas on runs into which a span's runs are put.
-use Rattle.std.proofs.Common.{◌≡◌, ℕ, ◌+◌, ◌-◌, ◌*◌, ◌^◌, ◌<◌, ◌≤◌, List, [], ◌∷◌, ◌++◌, Option, None, Some, true, false, not, filter, length, if◌then◌else◌, arith, refl, sym, ap, ◌∙◌, inl, inr, length-append, append-nil}
+use Rattle.std.proofs.Common.{◌≡◌, ℕ, ◌+◌, ◌-◌, ◌*◌, ◌^◌, ◌<◌, ◌≤◌, List, [], ◌∷◌, ◌++◌, Option, None, Some, not, filter, length, if◌then◌else◌, arith, refl, sym, ap, ◌∙◌, inl, inr, length-append, append-nil}
 use Rattle.std.specs.Option.{option_or}
 use Rattle.std.specs.List.{flat_map}
 use Rattle.std.proofs.lemmas.Bool.{cases_lt, cases_Bool, lt-ltb, le-ltb}
@@ -7,12 +7,14 @@ use Rattle.guest_base.specs.Ranges.{in_range}
 use Rattle.guest_base.specs.declared.memory.PageRun.{PageRun}
 use Rattle.guest_base.specs.declared.memory.PageState.{PageState}
 use Rattle.guest_base.specs.declared.memory.PageState.TheVariants.{Accepted}
-use Rattle.page_module.specs.States.{state_in}
+use Rattle.event_core.specs.Runs.{state_in}
 use Rattle.page_module.specs.Spans.{runs_now, RunsFrom}
 use Rattle.page_module.specs.Tables.{Rising}
-use Rattle.page_module.specs.Building.{part, parts, begins_before, run_end, RunEnds}
+use Rattle.page_module.specs.Building.{part, parts, begins_before, RunEnds}
+use Rattle.event_core.specs.Runs.{run_end}
 use Rattle.page_module.specs.declared.span.TakenRun.{TakenRun}
-use Rattle.page_module.proofs.Tests.{in_range-within, in_range-below, in_range-past, where_is, below, within, past}
+use Rattle.guest_base.proofs.RangeLemmas.{in_range-intro, in_range-below, in_range-past}
+use Rattle.page_module.proofs.RangeCases.{where_is, below, within, past}
 use Rattle.page_module.proofs.SpanLemmas.{runs-end}
 use Rattle.page_module.proofs.JoinLemmas.{state_in-append, end_after, rising-end}
 use Rattle.page_module.proofs.CutLemmas.{rising-weaker, rising-append, rising-below, rising-past, end_after-append, part-states, part-rises, PartRises, part-few, part-empty}
@@ -33,10 +35,10 @@ parts-states t page a =
         in_range-below t.run.pages.first t.run.pages.count page u,
         in_range-below rest (run_end t.run - rest) page (omega arith),
       ) refl
-      | within u v ↦ rw (in_range-within t.run.pages.first t.accepted page u v) refl
+      | within u v ↦ rw (in_range-intro t.run.pages.first t.accepted page u v) refl
       | past u ↦ rw (in_range-past t.run.pages.first t.accepted page u)
           (elim (cases_lt page (run_end t.run)) [
-            | inl v ↦ rw (in_range-within t.run.pages.first t.run.pages.count page (omega arith) v, in_range-within rest (run_end t.run - rest) page u (omega arith)) refl
+            | inl v ↦ rw (in_range-intro t.run.pages.first t.run.pages.count page (omega arith) v, in_range-intro rest (run_end t.run - rest) page u (omega arith)) refl
             | inr v ↦ rw (in_range-past t.run.pages.first t.run.pages.count page v, in_range-past rest (run_end t.run - rest) page (omega arith)) refl
           ])
     ])
@@ -46,13 +48,9 @@ all-parts-states first end page [] h = refl
 all-parts-states first end page (t ∷ rs) h =
     state_in-append (parts t) (flat_map parts rs) page
     ∙ rw (parts-states t page h.2, all-parts-states (first + t.run.pages.count) end page rs h.3)
-    (elim (in_range t.run.pages.first t.accepted page) as
-    (λ b. option_or (if b then Some Accepted else (if in_range t.run.pages.first t.run.pages.count page then Some t.run.state else None)) (state_in (runs_now rs) page)
-    ≡ (if b then Some Accepted else (if in_range t.run.pages.first t.run.pages.count page then Some t.run.state else state_in (runs_now rs) page))) [
-      | true ↦ refl
-      | false ↦ elim (in_range t.run.pages.first t.run.pages.count page) as
-          (λ b. option_or (if b then Some t.run.state else None) (state_in (runs_now rs) page) ≡ (if b then Some t.run.state else state_in (runs_now rs) page))
-          [ true ↦ refl | false ↦ refl ]
+    (elim (cases_Bool (in_range t.run.pages.first t.accepted page)) [
+      | inl a ↦ rw a refl
+      | inr a ↦ elim (cases_Bool (in_range t.run.pages.first t.run.pages.count page)) [ inl b ↦ rw (a, b) refl | inr b ↦ rw (a, b) refl ]
     ])
 
 -- the runs of a span rise, and end where it ends
@@ -122,9 +120,10 @@ split-states first from page [] h = refl
 split-states first from page (x ∷ xs) h =
     elim (cases_lt x.pages.first first) [
       | inl l ↦ rw (lt-ltb x.pages.first first l)
-          (elim (in_range x.pages.first x.pages.count page) as
-          (λ b. option_or (if b then Some x.state else state_in (Before first xs) page) (state_in (Behind first xs) page) ≡ (if b then Some x.state else state_in xs page))
-          [ true ↦ refl | false ↦ split-states first (run_end x) page xs h.3 ])
+          (elim (cases_Bool (in_range x.pages.first x.pages.count page)) [
+            | inl t ↦ rw t refl
+            | inr f ↦ rw f (split-states first (run_end x) page xs h.3)
+          ])
       | inr l ↦
           let r = all-behind first x.pages.first (x ∷ xs) (omega arith, h.1, h.2, h.3) l in
           rw (r.0, r.1) refl
@@ -143,7 +142,7 @@ placed-states first end from page xs ys h k e free =
     ∙ rw (state_in-append (Before first xs) ys page)
     (elim (where_is first (end - first) page) [
       | below u ↦ rw (in_range-below first (end - first) page u, rising-below first page ys k u) outside
-      | within u v ↦ rw (in_range-within first (end - first) page u v)
+      | within u v ↦ rw (in_range-intro first (end - first) page u v)
           (let n = or-none (state_in (Before first xs) page) (state_in (Behind first xs) page) (split-states first from page xs h ∙ free u (omega arith)) in
           rw (n.0, n.1) (or-right (state_in ys page)))
       | past u ↦
@@ -187,12 +186,12 @@ placed-rising first end from (x ∷ xs) ys h k e none before free =
         h.2,
         placed-rising first end (run_end x) xs ys h.3 k e none
             (λ m. elim (cases_lt first (run_end x)) [
-              | inl u ↦ let z = sym (rw (in_range-within x.pages.first x.pages.count first (omega arith) u) refl) ∙ free first (omega arith) m in some-none-order x.state (run_end x) first z
+              | inl u ↦ let z = sym (rw (in_range-intro x.pages.first x.pages.count first (omega arith) u) refl) ∙ free first (omega arith) m in some-none-order x.state (run_end x) first z
               | inr u ↦ u
             ])
             (λ page u v. elim (where_is x.pages.first x.pages.count page) [
               | below w ↦ absurd (omega arith)
-              | within w z ↦ let q = sym (rw (in_range-within x.pages.first x.pages.count page w z) refl) ∙ free page u v in some-none-state x.state q
+              | within w z ↦ let q = sym (rw (in_range-intro x.pages.first x.pages.count page w z) refl) ∙ free page u v in some-none-state x.state q
               | past w ↦ sym (rw (in_range-past x.pages.first x.pages.count page w) refl) ∙ free page u v
             ]),
       )
@@ -202,7 +201,7 @@ placed-rising first end from (x ∷ xs) ys h k e none before free =
           (elim (cases_lt first end) [
             | inl m ↦
                 let behind : end ≤ x.pages.first = elim (cases_lt x.pages.first end) [
-                  | inl u ↦ some-none-order x.state end x.pages.first (sym (rw (in_range-within x.pages.first x.pages.count x.pages.first (omega arith) (omega arith)) refl) ∙ free x.pages.first l u)
+                  | inl u ↦ some-none-order x.state end x.pages.first (sym (rw (in_range-intro x.pages.first x.pages.count x.pages.first (omega arith) (omega arith)) refl) ∙ free x.pages.first l u)
                   | inr u ↦ u
                 ] in
                 let last = ends-before from first ys (before m) in

@@ -1,18 +1,18 @@
 -- What putting a span back rests on.
-use Rattle.std.proofs.Common.{◌≡◌, ℕ, ◌+◌, ◌-◌, ◌*◌, ◌^◌, ◌<◌, ◌≤◌, List, [], ◌++◌, Option, None, All, true, false, fold, length, sum_by, if◌then◌else◌, arith, refl, sym, ap, subst, ◌∙◌, inl, inr}
+use Rattle.std.proofs.Common.{◌≡◌, ℕ, ◌+◌, ◌-◌, ◌*◌, ◌^◌, ◌<◌, ◌≤◌, List, [], ◌++◌, Option, None, All, true, false, fold, length, length-append, sum_by, if◌then◌else◌, arith, refl, sym, ap, subst, ◌∙◌, inl, inr}
 use Rattle.std.specs.List.{flat_map}
 use Rattle.std.proofs.lemmas.Bool.{cases_lt}
-use Rattle.std.proofs.lemmas.Grind.{fold-append}
 use Rattle.guest_base.specs.Ranges.{in_range}
 use Rattle.guest_base.specs.declared.memory.PageRun.{PageRun}
 use Rattle.guest_base.specs.declared.memory.PageState.{PageState}
-use Rattle.page_module.specs.States.{state_in}
-use Rattle.page_module.specs.Spans.{Taken, runs_now, RunsFrom}
+use Rattle.event_core.specs.Cut.{pages_end}
+use Rattle.event_core.specs.Runs.{state_in}
+use Rattle.page_module.specs.Spans.{Taken, runs_now, RunsFrom, LieInMemory}
 use Rattle.page_module.specs.Tables.{Table, Rising, Differing, is_out, without}
-use Rattle.page_module.specs.Building.{parts, joined, places, AllOut, RunEnds}
+use Rattle.page_module.specs.Building.{parts, placed, joined, places, AllOut, RunEnds}
 use Rattle.page_module.specs.declared.span.TakenRun.{TakenRun}
 use Rattle.page_module.specs.declared.ticket.Ticket.{Ticket}
-use Rattle.page_module.proofs.Tests.{in_range-within}
+use Rattle.guest_base.proofs.RangeLemmas.{in_range-intro}
 use Rattle.page_module.proofs.JoinLemmas.{end_after}
 use Rattle.page_module.proofs.PlaceLemmas.{Before, Behind, placed-states, placed-rising, all-parts-states, all-parts-rising, all-parts-length, split-length, none-taken}
 use Rattle.page_module.proofs.OutLemmas.{out-free, places-without, length-without}
@@ -44,25 +44,18 @@ pub record PutBack (old new : List PageRun) (ticket : Ticket) (taken : List Take
   pub differing : Differing new
   pub states : (page : ℕ) → state_in new page ≡ (if in_range ticket.pages.first ticket.pages.count page then state_in (runs_now taken) page else state_in old page)
 
-pub put-back : (old next one two new : List PageRun) (ticket : Ticket) (taken : List TakenRun) (out : List Ticket) →
+pub put-back : (old next new : List PageRun) (ticket : Ticket) (taken : List TakenRun) (out : List Ticket) →
     Rising 0 old → AllOut old out → is_out out ticket ≡ true →
-    RunsFrom ticket.pages.first (ticket.pages.first + ticket.pages.count) taken →
-    (0 < ticket.pages.count → ticket.pages.first + ticket.pages.count ≤ 2 ^ 28) →
-    next ≡ [] → one ≡ fold joined next (Before ticket.pages.first old) → two ≡ fold joined one (flat_map parts taken) →
-    new ≡ fold joined two (Behind ticket.pages.first old) →
-    PutBack old new ticket taken
-put-back old next one two new ticket taken out h a o f m e p q r =
+    RunsFrom ticket.pages.first (pages_end ticket.pages) taken → LieInMemory ticket.pages →
+    next ≡ [] → new ≡ fold joined next (placed ticket.pages.first old taken) → PutBack old new ticket taken
+put-back old next new ticket taken out h a o f m e all =
     let first : ℕ = ticket.pages.first in
     let end : ℕ = first + ticket.pages.count in
     let ys : List PageRun = flat_map parts taken in
     let span = span-rises ticket taken f m in
     let free : (page : ℕ) → first ≤ page → page < end → state_in old page ≡ None =
-    λ page u v. out-free old out ticket a o page (in_range-within first ticket.pages.count page u v) in
-    let source : List PageRun = (Before first old ++ ys) ++ Behind first old in
-    let all : new ≡ fold joined next source =
-    r ∙ ap (λ (l : List PageRun). fold joined l (Behind first old))
-    (q ∙ ap (λ (l : List PageRun). fold joined l ys) p ∙ sym (fold-append joined next (Before first old) ys))
-    ∙ sym (fold-append joined next (Before first old ++ ys) (Behind first old)) in
+    λ page u v. out-free old out ticket a o page (in_range-intro first ticket.pages.count page u v) in
+    let source : List PageRun = placed first old taken in
     let b = built next source new e all
     (placed-rising first end 0 old ys h span.rising span.ends (λ l. none-taken first end taken f l) (λ _. omega arith) free) in
     let count : end - first ≡ ticket.pages.count = omega arith in
@@ -77,34 +70,35 @@ put-back old next one two new ticket taken out h a o f m e p q r =
 -- what holds where a span is put back
 pub record PutFacts (old : List PageRun) (out : List Ticket) (kept : ℕ) (ticket : Ticket) (taken : List TakenRun) : Type 0 where
   pub out_is : is_out out ticket ≡ true
-  pub follow : RunsFrom ticket.pages.first (ticket.pages.first + ticket.pages.count) taken
-  pub few : length taken ≤ ticket.runs
-  pub memory : 0 < ticket.pages.count → ticket.pages.first + ticket.pages.count ≤ 2 ^ 28
+  pub follow : RunsFrom ticket.pages.first (pages_end ticket.pages) taken
+  pub memory : LieInMemory ticket.pages
   pub ends : All RunEnds old
   pub inner : All EndsInMemory taken
   pub sum : sum_by places (without ticket out) + places ticket ≡ kept
   pub fewer : length (without ticket out) + 1 ≡ length out
-  pub sides : length (Before ticket.pages.first old) + length (Behind ticket.pages.first old) ≡ length old
-  pub between : length (flat_map parts taken) ≤ 2 * length taken
+  pub long : length (placed ticket.pages.first old taken) ≤ length old + 2 * ticket.runs
 
-pub put-facts : (t : Table) (old : List PageRun) (out : List Ticket) (kept room : ℕ) (given ticket : Ticket) (taken : List TakenRun) →
+pub put-facts : {t : Table} {old : List PageRun} {out : List Ticket} {kept room : ℕ} {given ticket : Ticket} {taken : List TakenRun} →
     (let own : Table = record { runs = old; out = out; room = room } in own ≡ t) → ticket ≡ given → Rising 0 old → kept ≡ sum_by places out →
-    is_out t.out given ≡ true → RunsFrom given.pages.first (given.pages.first + given.pages.count) taken → length taken ≤ given.runs →
-    (0 < given.pages.count → given.pages.first + given.pages.count ≤ 2 ^ 28) → PutFacts old out kept ticket taken
-put-facts t old out kept room given ticket taken e g h k o f n m =
+    is_out t.out given ≡ true → RunsFrom given.pages.first (pages_end given.pages) taken → length taken ≤ given.runs →
+    LieInMemory given.pages → PutFacts old out kept ticket taken
+put-facts {old = old} {out = out} {kept = kept} {given = given} {taken = taken} e g h k o f n m =
     let P : Ticket → Type 0 = λ x. PutFacts old out kept x taken in
     let there : is_out out given ≡ true = rw (ap (λ (s : Table). s.out) e) o in
+    let first = given.pages.first in
+    let sides = split-length first old in
+    let between = all-parts-length taken in
+    let both = length-append (Before first old) (flat_map parts taken) in
+    let all = length-append (Before first old ++ flat_map parts taken) (Behind first old) in
     subst P (sym g) (record {
       out_is = there;
       follow = f;
-      few = n;
       memory = m;
       ends = rising-ends 0 old h;
-      inner = runs-fit given.pages.first (given.pages.first + given.pages.count) taken f (λ l. m (omega arith));
+      inner = runs-fit first (pages_end given.pages) taken f (λ l. m (omega arith));
       sum = places-without out given there ∙ sym k;
       fewer = length-without out given there;
-      sides = split-length given.pages.first old;
-      between = all-parts-length taken;
+      long = omega arith;
     })
 
 pub put-outside : (old new : List PageRun) (ticket : Ticket) (taken : List TakenRun) → PutBack old new ticket taken → (page : ℕ) →

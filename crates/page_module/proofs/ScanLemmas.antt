@@ -3,12 +3,13 @@ use Rattle.std.proofs.Common.{◌≡◌, ◌≢◌, ℕ, ◌+◌, ◌-◌, ◌<�
 use Rattle.std.proofs.lemmas.Bool.{cases_lt, cases_Bool, lt-ltb, le-ltb}
 use Rattle.guest_base.specs.declared.memory.PageState.{PageState}
 use Rattle.guest_base.specs.declared.memory.PageState.TheVariants.{Pending, Accepted, Shared}
-use Rattle.page_module.specs.States.{state_in}
+use Rattle.event_core.specs.Runs.{state_in}
 use Rattle.page_module.specs.Spans.{Taken, runs_now, RunsFrom}
 use Rattle.page_module.specs.Marking.{hits, first_from, rest_first, first_in, first_in_rest, first_page, IsFirstPending, NonePending}
 use Rattle.page_module.specs.declared.span.TakenRun.{TakenRun}
 use Rattle.page_module.specs.declared.ticket.Ticket.{Ticket}
-use Rattle.page_module.proofs.Tests.{in_range-within, in_range-true, where_is, below, within, past}
+use Rattle.guest_base.proofs.RangeLemmas.{in_range-intro, in_range-elim}
+use Rattle.page_module.proofs.RangeCases.{where_is, below, within, past}
 use Rattle.page_module.proofs.SpanLemmas.{runs-end, state-below, state-past, state-some, state_here, state-head, state-tail, state-first, state-rest}
 
 -- the first number of a range at or after a number
@@ -129,7 +130,7 @@ scan-some pending from at first end (t ∷ rs) h e =
     go (λ s. scan-some pending from at (first + t.run.pages.count) end rs h.3 s) (first_in pending from t) refl e
   where
     head : (n : ℕ) → t.run.pages.first ≤ n → n < t.run.pages.first + t.run.pages.count → state_in (runs_now (t ∷ rs)) n ≡ Some (state_here t n)
-    head n b c = state-head t rs n (in_range-within t.run.pages.first t.run.pages.count n b c) h.2
+    head n b c = state-head t rs n (in_range-intro t.run.pages.first t.run.pages.count n b c) h.2
 
     go : (first_page pending from rs ≡ Some at → (at < end) × Found pending from (state_in (runs_now rs)) at) →
         (o : Option ℕ) → first_in pending from t ≡ o →
@@ -180,7 +181,7 @@ scan-none pending from first end (t ∷ rs) h e n b =
     go tail None q s =
         elim (where_is t.run.pages.first t.run.pages.count n) [
           | below l ↦ let x = h.0 in rw (state-below first end n (t ∷ rs) h (omega arith)) refl
-          | within l m ↦ rw (state-head t rs n (in_range-within t.run.pages.first t.run.pages.count n l m) h.2) (in-none pending from t h.2 q n l m b)
+          | within l m ↦ rw (state-head t rs n (in_range-intro t.run.pages.first t.run.pages.count n l m) h.2) (in-none pending from t h.2 q n l m b)
           | past l ↦ rw (state-tail t rs n l h.2) (tail s)
         ]
 
@@ -264,7 +265,7 @@ next-pending ticket rs span from first end h e f g =
         some = omega arith;
         from_on = found.from_on;
         first = λ page b c. missed-pending (state_in (runs_now rs) page) (found.least page b c);
-        pending = λ page i. let w = in_range-true first (end - first) page i in x.pending page w.0 (omega arith);
+        pending = λ page i. let w = in_range-elim first (end - first) page i in x.pending page w.0 (omega arith);
         maximal = let s : first + (end - first) ≡ end = omega arith in rw s x.ends;
       }),
     )

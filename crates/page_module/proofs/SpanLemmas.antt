@@ -8,12 +8,14 @@ use Rattle.guest_base.specs.Ranges.{in_range}
 use Rattle.guest_base.specs.declared.memory.Pages.{Pages}
 use Rattle.guest_base.specs.declared.memory.PageState.{PageState}
 use Rattle.guest_base.specs.declared.memory.PageState.TheVariants.{Pending, Accepted}
-use Rattle.page_module.specs.States.{state_in, AllIn}
+use Rattle.event_core.specs.Runs.{state_in}
+use Rattle.page_module.specs.States.{AllIn}
 use Rattle.page_module.specs.Spans.{Taken, runs_now, RunsFrom, BeginsPending, Becomes}
 use Rattle.page_module.specs.declared.ticket.Ticket.{Ticket}
 use Rattle.page_module.specs.Marking.{EndsInMemory, all_in_state, accepted_in, rest_first}
 use Rattle.page_module.specs.declared.span.TakenRun.{TakenRun}
-use Rattle.page_module.proofs.Tests.{in_range-within, in_range-below, in_range-past, in_range-true, where_is, below, within, past}
+use Rattle.guest_base.proofs.RangeLemmas.{in_range-intro, in_range-below, in_range-past, in_range-elim}
+use Rattle.page_module.proofs.RangeCases.{where_is, below, within, past}
 
 pub runs-end : (first end : ℕ) (rs : List TakenRun) → RunsFrom first end rs → first ≤ end
 runs-end first end [] h = omega (arith, h)
@@ -54,9 +56,7 @@ pub state-head : (t : TakenRun) (rs : List TakenRun) (page : ℕ) → in_range t
     t.accepted ≤ t.run.pages.count →
     state_in (runs_now (t ∷ rs)) page ≡ Some (state_here t page)
 state-head t rs page i a =
-    rw i
-    (elim (in_range t.run.pages.first t.accepted page) as
-    (λ b. (if b then Some Accepted else Some t.run.state) ≡ Some (if b then Accepted else t.run.state)) [ true ↦ refl | false ↦ refl ])
+    (elim (cases_Bool (in_range t.run.pages.first t.accepted page)) [ inl u ↦ rw (i, u) refl | inr u ↦ rw (i, u) refl ])
 
 pub state-tail : (t : TakenRun) (rs : List TakenRun) (page : ℕ) → t.run.pages.first + t.run.pages.count ≤ page →
     t.accepted ≤ t.run.pages.count →
@@ -70,7 +70,7 @@ state-some first end page (t ∷ rs) h b c =
     let f = h.0 in
     elim (where_is t.run.pages.first t.run.pages.count page) [
       | below u ↦ absurd (omega arith)
-      | within u v ↦ let e = state-head t rs page (in_range-within t.run.pages.first t.run.pages.count page u v) h.2 in λ n. cc
+      | within u v ↦ let e = state-head t rs page (in_range-intro t.run.pages.first t.run.pages.count page u v) h.2 in λ n. cc
       | past u ↦ rw (state-tail t rs page u h.2) (state-some (first + t.run.pages.count) end page rs h.3 (omega arith) c)
     ]
 
@@ -87,7 +87,7 @@ states-all state first end page (t ∷ rs) h b c =
     let f = h.0 in
     elim (where_is t.run.pages.first t.run.pages.count page) [
       | below u ↦ absurd (omega arith)
-      | within u v ↦ rw (in_range-past t.run.pages.first 0 page (omega arith), in_range-within t.run.pages.first t.run.pages.count page u v) refl
+      | within u v ↦ rw (in_range-past t.run.pages.first 0 page (omega arith), in_range-intro t.run.pages.first t.run.pages.count page u v) refl
       | past u ↦ rw (state-tail (all_in_state state t) (map (all_in_state state) rs) page u (omega arith))
           (states-all state (first + t.run.pages.count) end page rs h.3 (omega arith) c)
     ]
@@ -119,7 +119,7 @@ may-mark-tail pages first t rs f a m =
     }
 
 pub state-first : (t : TakenRun) (page : ℕ) → t.run.pages.first ≤ page → page < rest_first t → state_here t page ≡ Accepted
-state-first t page b c = rw (in_range-within t.run.pages.first t.accepted page b c) refl
+state-first t page b c = rw (in_range-intro t.run.pages.first t.accepted page b c) refl
 
 pub state-rest : (t : TakenRun) (page : ℕ) → rest_first t ≤ page → state_here t page ≡ t.run.state
 state-rest t page b = rw (in_range-past t.run.pages.first t.accepted page b) refl
@@ -141,7 +141,7 @@ accepted-below : (pages : Pages) (t : TakenRun) (page : ℕ) → t.accepted ≤ 
     ((p : ℕ) → t.run.pages.first ≤ p → p < t.run.pages.first + t.run.pages.count → p + 1 ≡ pages.first → state_here t p ≢ Pending) →
     in_range pages.first pages.count page ≡ true → state_here t page ≡ Accepted
 accepted-below pages t page a b c u pend maxi i =
-    let r = in_range-true pages.first pages.count page i in
+    let r = in_range-elim pages.first pages.count page i in
     let before : ℕ = pages.first - 1 in
     let s = state-rest t page (omega arith) in
     let z = state-rest t before (omega arith) in
@@ -154,12 +154,12 @@ states-here-grown : (pages : Pages) (t : TakenRun) (page : ℕ) → t.accepted �
     state_here (accepted_in pages t) page ≡ (if in_range pages.first pages.count page then Accepted else state_here t page)
 states-here-grown pages t page a b c u v =
     let grown : ℕ = min (t.run.pages.first + t.run.pages.count) (pages.first + pages.count) - t.run.pages.first in
-    rw (in_range-within pages.first pages.count (rest_first t) u v)
+    rw (in_range-intro pages.first pages.count (rest_first t) u v)
     (elim (cases_lt page (pages.first + pages.count)) [
-      | inl p ↦ rw (in_range-within t.run.pages.first grown page b (omega arith))
+      | inl p ↦ rw (in_range-intro t.run.pages.first grown page b (omega arith))
           (elim (cases_lt page pages.first) [
             | inl q ↦ rw (in_range-below pages.first pages.count page q) (sym (state-first t page b (omega arith)))
-            | inr q ↦ rw (in_range-within pages.first pages.count page q p) refl
+            | inr q ↦ rw (in_range-intro pages.first pages.count page q p) refl
           ])
       | inr p ↦ rw (in_range-past t.run.pages.first grown page (omega arith), in_range-past pages.first pages.count page p)
           (sym (state-rest t page (omega arith)))
@@ -176,7 +176,7 @@ states-here pages t page a b c pend maxi =
           (λ i. accepted-below pages t page a b c u pend maxi i)
       | within u v ↦ states-here-grown pages t page a b c u v
       | past u ↦ states-here-kept pages t page (in_range-past pages.first pages.count (rest_first t) u)
-          (λ i. let r = in_range-true pages.first pages.count page i in state-first t page b (omega arith))
+          (λ i. let r = in_range-elim pages.first pages.count page i in state-first t page b (omega arith))
     ]
 
 some-if : (b : Bool) (old new : PageState) → new ≡ (if b then Accepted else old) → Some new ≡ (if b then Some Accepted else Some old)
@@ -195,13 +195,13 @@ states-accepted pages first end page (t ∷ rs) h m b c =
     elim (where_is t.run.pages.first t.run.pages.count page) [
       | below u ↦ absurd (omega arith)
       | within u v ↦
-          let i = in_range-within t.run.pages.first t.run.pages.count page u v in
+          let i = in_range-intro t.run.pages.first t.run.pages.count page u v in
           rw (state-head (accepted_in pages t) (map (accepted_in pages) rs) page i (accepted-few pages t h.2), state-head t rs page i h.2)
           (some-if (in_range pages.first pages.count page) (state_here t page) (state_here (accepted_in pages t) page)
           (states-here pages t page h.2 u v
           (λ w. some-inj (sym (state-head t rs page i h.2) ∙ m.pending page (omega arith) w))
           (λ p x y e q. m.maximal p (omega arith) e
-          (state-head t rs p (in_range-within t.run.pages.first t.run.pages.count p x y) h.2 ∙ ap (λ z. Some z) q))))
+          (state-head t rs p (in_range-intro t.run.pages.first t.run.pages.count p x y) h.2 ∙ ap (λ z. Some z) q))))
       | past u ↦
           rw (state-tail (accepted_in pages t) (map (accepted_in pages) rs) page u (accepted-few pages t h.2), state-tail t rs page u h.2)
           (states-accepted pages (first + t.run.pages.count) end page rs h.3 (may-mark-tail pages first t rs f h.2 m) (omega arith) c)
@@ -218,7 +218,7 @@ state-pass items i d page l a f =
     rw (add-one, drop-cons items i d l)
     (elim (where_is (get_or items i d).run.pages.first (get_or items i d).run.pages.count page) [
       | below u ↦ rw (f, in_range-below (get_or items i d).run.pages.first (get_or items i d).accepted page u) refl
-      | within u v ↦ let e = in_range-within (get_or items i d).run.pages.first (get_or items i d).run.pages.count page u v in cc
+      | within u v ↦ let e = in_range-intro (get_or items i d).run.pages.first (get_or items i d).run.pages.count page u v in cc
       | past u ↦ sym (state-tail (get_or items i d) (drop (suc i) items) page u a)
     ])
 
@@ -242,7 +242,7 @@ pub taken-some : (ticket : Ticket) (rs : List TakenRun) (span : Taken) (page : �
 taken-some ticket rs span page h e =
     let P : Taken → Type 0 = λ s. in_range s.ticket.pages.first s.ticket.pages.count page ≡ true → state_in s.runs page ≢ None in
     subst P e
-    (λ i. let w = in_range-true ticket.pages.first ticket.pages.count page i in
+    (λ i. let w = in_range-elim ticket.pages.first ticket.pages.count page i in
     state-some ticket.pages.first (ticket.pages.first + ticket.pages.count) page rs h w.0 w.1)
 
 -- the span in which all pages got a state
@@ -264,7 +264,7 @@ becomes-all state ticket rs new span pages h e p n =
             state-below first (first + count) page rs h u,
             state-below first (first + count) page (map (all_in_state state) rs) (runs-all state first (first + count) rs h) u,
           ) refl
-          | within u v ↦ rw (in_range-within first count page u v) (states-all state first (first + count) page rs h u v)
+          | within u v ↦ rw (in_range-intro first count page u v) (states-all state first (first + count) page rs h u v)
           | past u ↦ rw (
             in_range-past first count page u,
             state-past first (first + count) page rs h u,
@@ -324,9 +324,9 @@ span-end ticket rs span pages h e b s =
     let last : ℕ = pages.first + pages.count - 1 in
     let states = λ (p : ℕ). ap (λ (s : Taken). state_in s.runs p) e in
     let x = state-within ticket.pages.first (ticket.pages.first + ticket.pages.count) pages.first rs h
-    (states pages.first ∙ b.pending pages.first (in_range-within pages.first pages.count pages.first (omega arith) (omega arith))) in
+    (states pages.first ∙ b.pending pages.first (in_range-intro pages.first pages.count pages.first (omega arith) (omega arith))) in
     let y = state-within ticket.pages.first (ticket.pages.first + ticket.pages.count) last rs h
-    (states last ∙ b.pending last (in_range-within pages.first pages.count last (omega arith) (omega arith))) in
+    (states last ∙ b.pending last (in_range-intro pages.first pages.count last (omega arith) (omega arith))) in
     let z = y.1 in
     (x.0, omega arith)
 

@@ -1,20 +1,19 @@
 -- How the runs of a page table are made.
-use Rattle.std.specs.Prelude.{◌≡◌, ℕ, ◌+◌, ◌-◌, ◌*◌, ◌^◌, ◌≤◌, ◌==◌, ◌&&◌, List, [], ◌∷◌, ◌++◌, Bool, true, None, All, max, min, nat_lt, if◌then◌else◌}
+use Rattle.std.specs.Prelude.{◌≡◌, ℕ, ◌+◌, ◌-◌, ◌*◌, ◌≤◌, ◌==◌, ◌&&◌, List, [], ◌∷◌, ◌++◌, Bool, true, None, All, filter, max, min, nat_lt, not, if◌then◌else◌}
+use Rattle.std.specs.List.{flat_map}
 use Rattle.guest_base.specs.Ranges.{in_range}
+use Rattle.guest_base.specs.declared.limits.TheConstants.{PAGE_END}
 use Rattle.guest_base.specs.declared.memory.Pages.{Pages}
 use Rattle.guest_base.specs.declared.memory.PageRun.{PageRun}
 use Rattle.guest_base.specs.declared.memory.PageState.TheVariants.{Accepted}
-use Rattle.page_module.specs.States.{state_in}
+use Rattle.event_core.specs.Runs.{run_end, state_in, grown}
 use Rattle.page_module.specs.Tables.{same_state, Apart}
 use Rattle.page_module.specs.declared.span.TakenRun.{TakenRun}
 use Rattle.page_module.specs.declared.ticket.Ticket.{Ticket}
 
 -- a run goes on where another ends, in the same state
 abbrev pub continues : PageRun → PageRun → Bool
-continues last run = (last.pages.first + last.pages.count == run.pages.first) && same_state last.state run.state
-
-abbrev pub grown : PageRun → PageRun → PageRun
-grown last run = record { pages = record { first = last.pages.first; count = last.pages.count + run.pages.count }; state = last.state }
+continues last run = (run_end last == run.pages.first) && same_state last.state run.state
 
 -- a run and the next one, which becomes part of it where it goes on in its state
 abbrev pub both : PageRun → PageRun → List PageRun
@@ -28,10 +27,10 @@ joined (first ∷ second ∷ runs) run = first ∷ joined (second ∷ runs) run
 
 -- the part of a run before some pages, and the part behind them, where there are any
 abbrev pub part : PageRun → ℕ → ℕ → List PageRun
-part run first end = if nat_lt first end then record { pages = record { first = first; count = end - first }; state = run.state } ∷ [] else []
-
-abbrev pub run_end : PageRun → ℕ
-run_end run = run.pages.first + run.pages.count
+part run first end =
+    if nat_lt first end
+    then record { pages = record { first = first; count = end - first }; state = run.state } ∷ []
+    else []
 
 abbrev pub cut : Pages → PageRun → List PageRun
 cut pages run =
@@ -44,7 +43,11 @@ common pages run =
     let first = max run.pages.first pages.first in
     let end = min (run_end run) (pages.first + pages.count) in
     if nat_lt first end
-    then record { run = record { pages = record { first = first; count = end - first }; state = run.state }; accepted = 0 } ∷ []
+    then
+    record {
+      run = record { pages = record { first = first; count = end - first }; state = run.state };
+      accepted = 0;
+    } ∷ []
     else []
 
 -- whether a run begins before a page
@@ -53,13 +56,20 @@ begins_before first run = nat_lt run.pages.first first
 
 -- a run ends within memory
 abbrev pub RunEnds : PageRun → Type 0
-RunEnds run = run.pages.first + run.pages.count ≤ 2 ^ 28
+RunEnds run = run_end run ≤ PAGE_END
 
 -- the runs of a taken run: the pages accepted since, and the rest
 abbrev pub parts : TakenRun → List PageRun
 parts taken =
-    part (record { pages = taken.run.pages; state = Accepted }) taken.run.pages.first (taken.run.pages.first + taken.accepted)
-    ++ part taken.run (taken.run.pages.first + taken.accepted) (run_end taken.run)
+    let rest = taken.run.pages.first + taken.accepted in
+    part (record { pages = taken.run.pages; state = Accepted }) taken.run.pages.first rest
+    ++ part taken.run rest (run_end taken.run)
+
+-- a table's runs with those of a span among them, which begin at a page
+abbrev pub placed : ℕ → List PageRun → List TakenRun → List PageRun
+placed first runs taken =
+    (filter (begins_before first) runs ++ flat_map parts taken)
+    ++ filter (λ run. not (begins_before first run)) runs
 
 -- the places that a table keeps for a span that is out
 abbrev pub places : Ticket → ℕ
@@ -69,5 +79,6 @@ places ticket = 2 * ticket.runs + ticket.room
 abbrev pub AllOut : List PageRun → List Ticket → Type 0
 AllOut runs [] = Unit {0}
 AllOut runs (ticket ∷ out) =
-    ((page : ℕ) → in_range ticket.pages.first ticket.pages.count page ≡ true → state_in runs page ≡ None)
+    ((page : ℕ) → in_range ticket.pages.first ticket.pages.count page ≡ true
+    → state_in runs page ≡ None)
     × All (λ (other : Ticket). Apart ticket.pages other.pages) out × AllOut runs out

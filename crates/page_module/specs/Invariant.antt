@@ -7,8 +7,11 @@ use Rattle.page_module.specs.Building.{places, AllOut}
 use Rattle.page_module.specs.declared.span.TakenRun.{TakenRun}
 use Rattle.page_module.specs.declared.ticket.Ticket.{Ticket}
 
--- the runs are maximal, the spans that are out share no page, and what is kept and what is left fits the vectors
-pub record TableHolds (runs next : Vec PageRun Global) (out : Vec Ticket Global) (spare : Vec TakenRun Global) (kept room : ℕ) : Type 0 where
+-- the runs are maximal, the spans that are out share no page, and what is kept and what is left
+-- fits the vectors
+pub record TableHolds
+    (runs next : Vec PageRun Global) (out : Vec Ticket Global) (spare : Vec TakenRun Global)
+    (kept room : ℕ) : Type 0 where
   pub rising : Rising 0 runs.items
   pub differing : Differing runs.items
   pub apart : AllOut runs.items out.items

@@ -5,3 +5,4 @@ pub mod Building
 pub mod Invariant
 pub mod Marking
 pub mod Modules
+pub mod MemPort

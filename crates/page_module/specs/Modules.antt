@@ -12,25 +12,31 @@ use Rattle.event_core.specs.declared.module_call.PortAnswer.{PortAnswer}
 use Rattle.event_core.specs.declared.module_call.PortAnswer.TheVariants.{Ok, SizeMismatch, Failed}
 use Rattle.page_module.specs.Spans.{Taken, BeginsPending, Becomes}
 
--- an accept call may be made: its first page is aligned to its level and begins a maximal run of pending pages, in which all its pages lie (after the TDX guest's acceptance)
+-- an accept call may be made: its first page is aligned to its level and begins a maximal run of
+-- pending pages, in which all its pages lie (after the TDX guest's acceptance)
 pub record MayAccept (span : Taken) (first : ℕ) (level : Level) : Type 0 where
   pub aligned : first % level_pages level ≡ 0
   pub begins : BeginsPending span first (level_pages level)
 
--- what a module that doesn't fail answers to an accept call, where the host has mapped its first page at a level (own rule)
+-- what a module that doesn't fail answers to an accept call, where the host has mapped its first
+-- page at a level (own rule)
 abbrev pub answer_by : Level → Level → PortAnswer
 answer_by level host = if is_smaller host level then SizeMismatch else Ok
 
 -- the record of an accept call
 abbrev pub accept_call : ℕ → Level → PortAnswer → ModuleCall
-accept_call first level answer = record { kind = Accept; first = first; count = level_pages level; level = level; answer = answer }
+accept_call first level answer =
+    let count = level_pages level in
+    record { kind = Accept; first = first; count = count; level = level; answer = answer }
 
 -- the record of a call for a whole span
 abbrev pub span_call : CallKind → Taken → PortAnswer → ModuleCall
 span_call kind span answer =
-    record { kind = kind; first = span.ticket.pages.first; count = span.ticket.pages.count; level = Small; answer = answer }
+    let pages = span.ticket.pages in
+    record { kind = kind; first = pages.first; count = pages.count; level = Small; answer = answer }
 
--- the span after a call that makes these pages have a state: by Ok they have it and all else is as before, after any other answer the span is unchanged
+-- the span after a call that makes these pages have a state: by Ok they have it and all else is as
+-- before, after any other answer the span is unchanged
 abbrev pub AfterCall : PageState → Taken → Taken → ℕ → ℕ → PortAnswer → Type 0
 AfterCall state old new first count Ok = Becomes state old new first count
 AfterCall state old new first count SizeMismatch = new ≡ old

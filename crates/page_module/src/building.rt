@@ -1,8 +1,11 @@
 //! How the runs of a page table are written anew.
 ghost use Rattle.std.specs.Prelude.{◌≡◌, ◌+◌, ◌*◌, ◌^◌, ◌<◌, ◌≤◌, [], ◌∷◌, ◌++◌, All, IsTrue, length, fold, filter, not, if◌then◌else◌, vec_len, vec_capacity};
 ghost use Rattle.std.specs.List.{flat_map};
+ghost use Rattle.guest_base.specs.declared.limits.TheConstants.{PAGE_END};
 ghost use Rattle.page_module.specs.Tables.{same_state};
-ghost use Rattle.page_module.specs.Building.{continues, grown, both, joined, part, run_end, cut, common, begins_before, parts, RunEnds};
+ghost use Rattle.page_module.specs.Building.{continues, both, joined, part, cut, common, begins_before, parts, placed, RunEnds};
+ghost use Rattle.event_core.specs.Runs.{run_end, grown};
+ghost use Rattle.page_module.specs.Spans.{LieInMemory};
 ghost use Rattle.page_module.specs.Marking.{EndsInMemory};
 
 use crate::span::TakenRun;
@@ -24,10 +27,13 @@ pub(crate) fn join_all(runs: &[PageRun], next: &mut Vec<PageRun>)
 /// Adds what is left of runs without some pages at the end.
 pub(crate) fn cut_out(runs: &Vec<PageRun>, pages: Pages, next: &mut Vec<PageRun>)
     requires ends { All RunEnds runs.now.items }
-    requires pages { 0 < pages.count → pages.first + pages.count < 2 ^ 64 }
-    requires room { vec_len next.old + length (flat_map (cut pages) runs.now.items) ≤ vec_capacity next.old }
-    ensures items { next.new.items ≡ fold joined next.old.items (flat_map (cut pages) runs.now.items) }
-    ensures len { vec_len next.new ≤ vec_len next.old + length (flat_map (cut pages) runs.now.items) }
+    requires pages { LieInMemory pages }
+    requires room { vec_len next.old + length (flat_map (cut pages) runs.now.items)
+        ≤ vec_capacity next.old }
+    ensures items { next.new.items
+        ≡ fold joined next.old.items (flat_map (cut pages) runs.now.items) }
+    ensures len { vec_len next.new ≤ vec_len next.old
+        + length (flat_map (cut pages) runs.now.items) }
     ensures capacity { vec_capacity next.old ≤ vec_capacity next.new }
 {
     for run in runs {
@@ -38,7 +44,7 @@ pub(crate) fn cut_out(runs: &Vec<PageRun>, pages: Pages, next: &mut Vec<PageRun>
 /// Adds what is left of a run without some pages at the end.
 fn cut_run(run: PageRun, pages: Pages, next: &mut Vec<PageRun>)
     requires ends { RunEnds run }
-    requires pages { 0 < pages.count → pages.first + pages.count < 2 ^ 64 }
+    requires pages { LieInMemory pages }
     requires room { vec_len next.old + length (cut pages run) ≤ vec_capacity next.old }
     ensures items { next.new.items ≡ fold joined next.old.items (cut pages run) }
     ensures len { vec_len next.new ≤ vec_len next.old + length (cut pages run) }
@@ -52,7 +58,7 @@ fn cut_run(run: PageRun, pages: Pages, next: &mut Vec<PageRun>)
 
 /// Adds the part of a run from a page up to another at the end, where there is one.
 fn join_part(run: PageRun, first: u64, end: u64, next: &mut Vec<PageRun>)
-    requires end { end ≤ 2 ^ 28 }
+    requires end { end ≤ PAGE_END }
     requires room { vec_len next.old + length (part run first end) ≤ vec_capacity next.old }
     ensures items { next.new.items ≡ fold joined next.old.items (part run first end) }
     ensures len { vec_len next.new ≤ vec_len next.old + length (part run first end) }
@@ -73,12 +79,37 @@ fn join_part(run: PageRun, first: u64, end: u64, next: &mut Vec<PageRun>)
     }
 }
 
-/// Adds the runs that begin before a page at the end.
-pub(crate) fn join_before(runs: &Vec<PageRun>, first: u64, next: &mut Vec<PageRun>)
+/// Adds a table's runs at the end, with those of a span among them, which begin at a page.
+pub(crate) fn join_placed(
+    runs: &Vec<PageRun>,
+    first: u64,
+    taken: &Vec<TakenRun>,
+    next: &mut Vec<PageRun>,
+)
     requires ends { All RunEnds runs.now.items }
-    requires room { vec_len next.old + length (filter (begins_before first) runs.now.items) ≤ vec_capacity next.old }
-    ensures items { next.new.items ≡ fold joined next.old.items (filter (begins_before first) runs.now.items) }
-    ensures len { vec_len next.new ≤ vec_len next.old + length (filter (begins_before first) runs.now.items) }
+    requires taken_ends { All EndsInMemory taken.now.items }
+    requires room { vec_len next.old + length (placed first runs.now.items taken.now.items)
+        ≤ vec_capacity next.old }
+    ensures items { next.new.items
+        ≡ fold joined next.old.items (placed first runs.now.items taken.now.items) }
+    ensures len { vec_len next.new
+        ≤ vec_len next.old + length (placed first runs.now.items taken.now.items) }
+    ensures capacity { vec_capacity next.old ≤ vec_capacity next.new }
+{
+    join_before(runs, first, next);
+    join_taken(taken, next);
+    join_behind(runs, first, next);
+}
+
+/// Adds the runs that begin before a page at the end.
+fn join_before(runs: &Vec<PageRun>, first: u64, next: &mut Vec<PageRun>)
+    requires ends { All RunEnds runs.now.items }
+    requires room { vec_len next.old + length (filter (begins_before first) runs.now.items)
+        ≤ vec_capacity next.old }
+    ensures items { next.new.items
+        ≡ fold joined next.old.items (filter (begins_before first) runs.now.items) }
+    ensures len { vec_len next.new ≤ vec_len next.old
+        + length (filter (begins_before first) runs.now.items) }
     ensures capacity { vec_capacity next.old ≤ vec_capacity next.new }
 {
     for run in runs {
@@ -89,11 +120,15 @@ pub(crate) fn join_before(runs: &Vec<PageRun>, first: u64, next: &mut Vec<PageRu
 }
 
 /// Adds the runs that begin at a page or behind it at the end.
-pub(crate) fn join_behind(runs: &Vec<PageRun>, first: u64, next: &mut Vec<PageRun>)
+fn join_behind(runs: &Vec<PageRun>, first: u64, next: &mut Vec<PageRun>)
     requires ends { All RunEnds runs.now.items }
-    requires room { vec_len next.old + length (filter (λ run. not (begins_before first run)) runs.now.items) ≤ vec_capacity next.old }
-    ensures items { next.new.items ≡ fold joined next.old.items (filter (λ run. not (begins_before first run)) runs.now.items) }
-    ensures len { vec_len next.new ≤ vec_len next.old + length (filter (λ run. not (begins_before first run)) runs.now.items) }
+    requires room { vec_len next.old
+        + length (filter (λ run. not (begins_before first run)) runs.now.items)
+        ≤ vec_capacity next.old }
+    ensures items { next.new.items ≡ fold joined next.old.items
+        (filter (λ run. not (begins_before first run)) runs.now.items) }
+    ensures len { vec_len next.new ≤ vec_len next.old
+        + length (filter (λ run. not (begins_before first run)) runs.now.items) }
     ensures capacity { vec_capacity next.old ≤ vec_capacity next.new }
 {
     for run in runs {
@@ -104,9 +139,10 @@ pub(crate) fn join_behind(runs: &Vec<PageRun>, first: u64, next: &mut Vec<PageRu
 }
 
 /// Adds a span's runs at the end.
-pub(crate) fn join_taken(taken: &Vec<TakenRun>, next: &mut Vec<PageRun>)
+fn join_taken(taken: &Vec<TakenRun>, next: &mut Vec<PageRun>)
     requires ends { All EndsInMemory taken.now.items }
-    requires room { vec_len next.old + length (flat_map parts taken.now.items) ≤ vec_capacity next.old }
+    requires room { vec_len next.old + length (flat_map parts taken.now.items)
+        ≤ vec_capacity next.old }
     ensures items { next.new.items ≡ fold joined next.old.items (flat_map parts taken.now.items) }
     ensures len { vec_len next.new ≤ vec_len next.old + length (flat_map parts taken.now.items) }
     ensures capacity { vec_capacity next.old ≤ vec_capacity next.new }
@@ -132,13 +168,30 @@ fn join_parts(taken: TakenRun, next: &mut Vec<PageRun>)
     join_part(run, rest, pages.first + pages.count, next);
 }
 
-/// What a span gets of runs.
-pub(crate) fn copy_runs(runs: &Vec<PageRun>, pages: Pages, taken: &mut Vec<TakenRun>)
+/// What a span gets of runs, in its storage.
+pub(crate) fn copies_of(runs: &Vec<PageRun>, pages: Pages, storage: Vec<TakenRun>) -> Vec<TakenRun>
     requires ends { All RunEnds runs.now.items }
-    requires pages { 0 < pages.count → pages.first + pages.count < 2 ^ 64 }
-    requires room { vec_len taken.old + length (flat_map (common pages) runs.now.items) ≤ vec_capacity taken.old }
+    requires pages { LieInMemory pages }
+    requires empty { storage.items ≡ [] }
+    requires room { length (flat_map (common pages) runs.now.items) ≤ vec_capacity storage }
+    ensures items { result.items ≡ flat_map (common pages) runs.now.items }
+    ensures len { vec_len result ≡ length (flat_map (common pages) runs.now.items) }
+    ensures capacity { vec_capacity storage ≤ vec_capacity result }
+{
+    let mut taken = storage;
+    copy_runs(runs, pages, &mut taken);
+    taken
+}
+
+/// What a span gets of runs.
+fn copy_runs(runs: &Vec<PageRun>, pages: Pages, taken: &mut Vec<TakenRun>)
+    requires ends { All RunEnds runs.now.items }
+    requires pages { LieInMemory pages }
+    requires room { vec_len taken.old + length (flat_map (common pages) runs.now.items)
+        ≤ vec_capacity taken.old }
     ensures items { taken.new.items ≡ taken.old.items ++ flat_map (common pages) runs.now.items }
-    ensures len { vec_len taken.new ≤ vec_len taken.old + length (flat_map (common pages) runs.now.items) }
+    ensures len { vec_len taken.new ≤ vec_len taken.old
+        + length (flat_map (common pages) runs.now.items) }
     ensures capacity { vec_capacity taken.old ≤ vec_capacity taken.new }
 {
     for run in runs {
@@ -149,7 +202,7 @@ pub(crate) fn copy_runs(runs: &Vec<PageRun>, pages: Pages, taken: &mut Vec<Taken
 /// What a span gets of a run, where it gets something.
 fn copy_run(run: PageRun, pages: Pages, taken: &mut Vec<TakenRun>)
     requires ends { RunEnds run }
-    requires pages { 0 < pages.count → pages.first + pages.count < 2 ^ 64 }
+    requires pages { LieInMemory pages }
     requires room { vec_len taken.old + length (common pages run) ≤ vec_capacity taken.old }
     ensures items { taken.new.items ≡ taken.old.items ++ common pages run }
     ensures len { vec_len taken.new ≤ vec_len taken.old + length (common pages run) }
@@ -162,23 +215,12 @@ fn copy_run(run: PageRun, pages: Pages, taken: &mut Vec<TakenRun>)
             first,
             count: end - first,
         };
-        push_taken(
-            taken,
-            PageRun {
-                pages,
-                state: run.state,
-            },
-        );
+        let run = PageRun {
+            pages,
+            state: run.state,
+        };
+        taken.push_reserved(TakenRun { run, accepted: 0 });
     }
-}
-
-fn push_taken(taken: &mut Vec<TakenRun>, run: PageRun)
-    requires { vec_len taken.old < vec_capacity taken.old }
-    ensures items { taken.new.items ≡ taken.old.items ++ record { run = run; accepted = 0 } ∷ [] }
-    ensures len { vec_len taken.new ≡ vec_len taken.old + 1 }
-    ensures capacity { vec_capacity taken.old ≤ vec_capacity taken.new }
-{
-    let _ = taken.push(TakenRun { run, accepted: 0 });
 }
 
 /// Adds a run at the end, where it becomes part of the last one where it goes on in its state.
@@ -191,7 +233,7 @@ fn join(runs: &mut Vec<PageRun>, run: PageRun)
 {
     match runs.pop() {
         Some(last) => push_both(runs, last, run),
-        None => push_run(runs, run),
+        None => runs.push_reserved(run),
     }
 }
 
@@ -204,20 +246,11 @@ fn push_both(runs: &mut Vec<PageRun>, last: PageRun, run: PageRun)
     ensures capacity { vec_capacity runs.old ≤ vec_capacity runs.new }
 {
     if goes_on(last, run) {
-        push_run(runs, with_more(last, run));
+        runs.push_reserved(with_more(last, run));
     } else {
-        push_run(runs, last);
-        push_run(runs, run);
+        runs.push_reserved(last);
+        runs.push_reserved(run);
     }
-}
-
-fn push_run(runs: &mut Vec<PageRun>, run: PageRun)
-    requires { vec_len runs.old < vec_capacity runs.old }
-    ensures items { runs.new.items ≡ runs.old.items ++ run ∷ [] }
-    ensures len { vec_len runs.new ≡ vec_len runs.old + 1 }
-    ensures capacity { vec_capacity runs.old ≤ vec_capacity runs.new }
-{
-    let _ = runs.push(run);
 }
 
 /// Whether a run goes on where another ends, in the same state.

@@ -1,10 +1,10 @@
 //! A port in memory.
-ghost use Rattle.std.specs.Prelude.{◌≡◌, ◌+◌, ◌-◌, ◌<◌, ◌≤◌, ◌⊎◌, [], ◌∷◌, ◌++◌, ◌==◌, length, if◌then◌else◌, vec_len, vec_capacity};
-ghost use Rattle.std.specs.List.{list_any};
-ghost use Rattle.guest_base.specs.Counts.{Rose};
-ghost use Rattle.guest_base.specs.declared.memory.PageState.TheVariants.{Accepted};
-ghost use Rattle.page_module.specs.Spans.{BeginsPending};
-ghost use Rattle.page_module.specs.Modules.{answer_by, span_call, AfterCall};
+ghost use Rattle.std.specs.Prelude.{◌≡◌, ◌+◌, ◌<◌, ◌≤◌, ◌⊎◌, [], ◌∷◌, ◌++◌, OnOk, vec_len, vec_capacity};
+ghost use Rattle.guest_base.specs.Levels.{level_pages};
+ghost use Rattle.guest_base.specs.declared.memory.PageState.TheVariants.{Pending, Accepted, Shared};
+ghost use Rattle.event_core.specs.declared.module_call.CallKind.TheVariants.{Share, Unshare, Give};
+ghost use Rattle.page_module.specs.Spans.{BeginsPending, SpanIs};
+ghost use Rattle.page_module.specs.Modules.{MayAccept, answer_by, accept_call, span_call, AfterCall};
 
 use crate::port::Port;
 use crate::span::Span;
@@ -22,12 +22,15 @@ pub struct MemPort {
 }
 
 impl MemPort {
-    /// A port that fails at the calls whose numbers are in `failing`, counted from 1; with none of them it
-    /// never fails.
+    ghost use Rattle.page_module.specs.MemPort.{calls_made, faults_of, room_of, failing_of, NeverFails, FailsAsTold};
+
+    /// A port that fails at the calls whose numbers are in `failing`: calls of every kind are counted together,
+    /// from 1. With no number in it, it never fails.
     pub fn new(alloc: Global, failing: Vec<u64>) -> MemPort
-        ensures made { ⟦<MemPort as Port>⟧.made result ≡ [] }
-        ensures faults { ⟦<MemPort as Port>⟧.faults result ≡ 0 }
-        ensures never_fails { failing.items ≡ [] → ⟦<MemPort as Port>⟧.never_fails result }
+        ensures made { calls_made result ≡ [] }
+        ensures faults { faults_of result ≡ 0 }
+        ensures failing { failing_of result ≡ failing.items }
+        ensures never_fails { failing.items ≡ [] → NeverFails result }
     {
         MemPort {
             calls: Vec::new(alloc),
@@ -39,11 +42,7 @@ impl MemPort {
     /// The answer to the next call: Failed where its number is in `failing`, else `honest`, the answer without
     /// a fault.
     fn answer(&mut self, honest: PortAnswer) -> PortAnswer
-        ensures told { result ≡ (if list_any (λ call. call == length self.old.calls.items + 1) self.old.failing.items then PortAnswer.Failed else honest) }
-        ensures answer { (result ≡ PortAnswer.Failed) ⊎ (result ≡ honest) }
-        ensures failed { result ≡ PortAnswer.Failed → honest ≡ PortAnswer.Failed ⊎ Rose self.old.faults self.new.faults }
-        ensures faults_kept { self.old.faults ≤ self.new.faults }
-        ensures never { self.old.failing.items ≡ [] → self.new.faults ≡ self.old.faults }
+        ensures answers { FailsAsTold self.old self.new honest result }
         ensures rest { self.new ≡ record self.old { faults = self.new.faults } }
     {
         let number = self.calls.len() as u64 + 1;
@@ -58,7 +57,13 @@ impl MemPort {
     /// Records a call.
     fn note(&mut self, kind: CallKind, pages: Pages, level: Level, answer: PortAnswer)
         requires { vec_len self.old.calls < vec_capacity self.old.calls }
-        ensures calls { self.new.calls.items ≡ self.old.calls.items ++ record { kind = kind; first = pages.first; count = pages.count; level = level; answer = answer } ∷ [] }
+        ensures calls { self.new.calls.items ≡ self.old.calls.items ++ record {
+          kind = kind;
+          first = pages.first;
+          count = pages.count;
+          level = level;
+          answer = answer;
+        } ∷ [] }
         ensures len { vec_len self.new.calls ≡ vec_len self.old.calls + 1 }
         ensures capacity { vec_capacity self.old.calls ≤ vec_capacity self.new.calls }
         ensures faults { self.new.faults ≡ self.old.faults }
@@ -71,21 +76,18 @@ impl MemPort {
             level,
             answer,
         };
-        push_within(&mut self.calls, call);
+        self.calls.push_reserved(call);
     }
 
     /// The call of a kind for all pages of a span, which makes them have a state where its answer is Ok.
     fn call_for_all(&mut self, span: &mut Span, kind: CallKind, state: PageState) -> PortAnswer
-        requires room { vec_len self.old.calls < vec_capacity self.old.calls }
-        ensures calls { self.new.calls.items ≡ self.old.calls.items ++ span_call kind span.old result ∷ [] }
-        ensures answer { (result ≡ PortAnswer.Failed) ⊎ (result ≡ PortAnswer.Ok) }
-        ensures failed { result ≡ PortAnswer.Failed → Rose self.old.faults self.new.faults }
-        ensures after { AfterCall state span.old span.new span.old.ticket.pages.first span.old.ticket.pages.count result }
-        ensures faults_kept { self.old.faults ≤ self.new.faults }
-        ensures never { self.old.failing.items ≡ [] → self.new.faults ≡ self.old.faults }
-        ensures len { vec_len self.new.calls ≡ vec_len self.old.calls + 1 }
-        ensures capacity { vec_capacity self.old.calls ≤ vec_capacity self.new.calls }
-        ensures failing { self.new.failing ≡ self.old.failing }
+        requires room { 0 < room_of self.old }
+        ensures recorded { calls_made self.new
+            ≡ calls_made self.old ++ span_call kind span.old result ∷ [] }
+        ensures answers { FailsAsTold self.old self.new PortAnswer.Ok result }
+        ensures after { AfterCall state span.old span.new span.old.ticket.pages.first
+            span.old.ticket.pages.count result }
+        ensures room_used { room_of self.old ≤ room_of self.new + 1 }
     {
         let pages = span.pages();
         let answer = self.answer(PortAnswer::Ok);
@@ -108,7 +110,8 @@ fn answer_without_fault(level: Level, host: Level) -> PortAnswer
 
 /// Gives these pages of the span a state, where the answer is Ok.
 fn mark_if_done(span: &mut Span, pages: Pages, state: PageState, answer: PortAnswer)
-    requires { (pages ≡ span.old.ticket.pages) ⊎ ((state ≡ Accepted) × BeginsPending span.old pages.first pages.count) }
+    requires { (pages ≡ span.old.ticket.pages)
+        ⊎ ((state ≡ Accepted) × BeginsPending span.old pages.first pages.count) }
     ensures { AfterCall state span.old span.new pages.first pages.count answer }
 {
     if answer == PortAnswer::Ok {
@@ -116,32 +119,38 @@ fn mark_if_done(span: &mut Span, pages: Pages, state: PageState, answer: PortAns
     }
 }
 
-/// Adds a call at the end.
-fn push_within(calls: &mut Vec<ModuleCall>, call: ModuleCall)
-    requires { vec_len calls.old < vec_capacity calls.old }
-    ensures items { calls.new.items ≡ calls.old.items ++ call ∷ [] }
-    ensures len { vec_len calls.new ≡ vec_len calls.old + 1 }
-    ensures capacity { vec_capacity calls.old ≤ vec_capacity calls.new }
-{
-    let _ = calls.push(call);
-}
-
 impl Port for MemPort {
-    ghost made = { λ p. p.calls.items };
+    ghost use Rattle.page_module.specs.MemPort.{calls_made, faults_of, room_of, failing_of, NeverFails, FailsAsTold};
 
-    ghost faults = { λ p. p.faults };
+    ghost made = { calls_made };
 
-    ghost room = { λ p. vec_capacity p.calls - vec_len p.calls };
+    ghost faults = { faults_of };
 
-    ghost never_fails = { λ p. (p.failing.items ≡ []) × (p.faults ≡ 0) };
+    ghost room = { room_of };
+
+    ghost never_fails = { NeverFails };
 
     ghost no_fault = { λ p h. h.1 };
 
-    fn reserve(&mut self, _alloc: Global, calls: u64) -> Result<(), AllocError> {
+    fn reserve(&mut self, _alloc: Global, calls: u64) -> Result<(), AllocError>
+        ensures ok { OnOk result (calls ≤ room_of self.new) }
+        ensures room_kept { room_of self.old ≤ room_of self.new }
+        ensures made { calls_made self.new ≡ calls_made self.old }
+        ensures faults { faults_of self.new ≡ faults_of self.old }
+        ensures failing { failing_of self.new ≡ failing_of self.old }
+    {
         self.calls.reserve(calls as usize)
     }
 
-    fn accept(&mut self, span: &mut Span, at: Page, level: Level, host: Level) -> PortAnswer {
+    fn accept(&mut self, span: &mut Span, at: Page, level: Level, host: Level) -> PortAnswer
+        requires room { 0 < room_of self.old }
+        requires may { MayAccept span.old at.0 level }
+        ensures recorded { calls_made self.new
+            ≡ calls_made self.old ++ accept_call at.0 level result ∷ [] }
+        ensures answers { FailsAsTold self.old self.new (answer_by level host) result }
+        ensures after { AfterCall Accepted span.old span.new at.0 (level_pages level) result }
+        ensures room_used { room_of self.old ≤ room_of self.new + 1 }
+    {
         let pages = Pages {
             first: at.0,
             count: level.pages(),
@@ -152,15 +161,42 @@ impl Port for MemPort {
         answer
     }
 
-    fn share(&mut self, span: &mut Span) -> PortAnswer {
+    fn share(&mut self, span: &mut Span) -> PortAnswer
+        requires room { 0 < room_of self.old }
+        requires accepted { SpanIs Accepted span.old }
+        ensures recorded { calls_made self.new
+            ≡ calls_made self.old ++ span_call Share span.old result ∷ [] }
+        ensures answers { FailsAsTold self.old self.new PortAnswer.Ok result }
+        ensures after { AfterCall Shared span.old span.new span.old.ticket.pages.first
+            span.old.ticket.pages.count result }
+        ensures room_used { room_of self.old ≤ room_of self.new + 1 }
+    {
         self.call_for_all(span, CallKind::Share, PageState::Shared)
     }
 
-    fn unshare(&mut self, span: &mut Span) -> PortAnswer {
+    fn unshare(&mut self, span: &mut Span) -> PortAnswer
+        requires room { 0 < room_of self.old }
+        requires shared { SpanIs Shared span.old }
+        ensures recorded { calls_made self.new
+            ≡ calls_made self.old ++ span_call Unshare span.old result ∷ [] }
+        ensures answers { FailsAsTold self.old self.new PortAnswer.Ok result }
+        ensures after { AfterCall Pending span.old span.new span.old.ticket.pages.first
+            span.old.ticket.pages.count result }
+        ensures room_used { room_of self.old ≤ room_of self.new + 1 }
+    {
         self.call_for_all(span, CallKind::Unshare, PageState::Pending)
     }
 
-    fn give(&mut self, span: &mut Span) -> PortAnswer {
+    fn give(&mut self, span: &mut Span) -> PortAnswer
+        requires room { 0 < room_of self.old }
+        requires accepted { SpanIs Accepted span.old }
+        ensures recorded { calls_made self.new
+            ≡ calls_made self.old ++ span_call Give span.old result ∷ [] }
+        ensures answers { FailsAsTold self.old self.new PortAnswer.Ok result }
+        ensures after { AfterCall Pending span.old span.new span.old.ticket.pages.first
+            span.old.ticket.pages.count result }
+        ensures room_used { room_of self.old ≤ room_of self.new + 1 }
+    {
         self.call_for_all(span, CallKind::Give, PageState::Pending)
     }
 }

@@ -63,7 +63,8 @@ pub trait Port: Send {
         ensures recorded { made self.new ≡ made self.old ++ span_call Share span.old result ∷ [] }
         ensures answer { (result ≡ PortAnswer.Failed) ⊎ (result ≡ PortAnswer.Ok) }
         ensures failed { result ≡ PortAnswer.Failed → Rose (faults self.old) (faults self.new) }
-        ensures after { AfterCall Shared span.old span.new span.old.ticket.pages.first span.old.ticket.pages.count result }
+        ensures after { AfterCall Shared span.old span.new
+            span.old.ticket.pages.first span.old.ticket.pages.count result }
         ensures faults_kept { faults self.old ≤ faults self.new }
         ensures room_used { room self.old ≤ room self.new + 1 }
         ensures never_fails_kept { never_fails self.old → never_fails self.new };
@@ -78,7 +79,8 @@ pub trait Port: Send {
         ensures recorded { made self.new ≡ made self.old ++ span_call Unshare span.old result ∷ [] }
         ensures answer { (result ≡ PortAnswer.Failed) ⊎ (result ≡ PortAnswer.Ok) }
         ensures failed { result ≡ PortAnswer.Failed → Rose (faults self.old) (faults self.new) }
-        ensures after { AfterCall Pending span.old span.new span.old.ticket.pages.first span.old.ticket.pages.count result }
+        ensures after { AfterCall Pending span.old span.new
+            span.old.ticket.pages.first span.old.ticket.pages.count result }
         ensures faults_kept { faults self.old ≤ faults self.new }
         ensures room_used { room self.old ≤ room self.new + 1 }
         ensures never_fails_kept { never_fails self.old → never_fails self.new };
@@ -93,7 +95,8 @@ pub trait Port: Send {
         ensures recorded { made self.new ≡ made self.old ++ span_call Give span.old result ∷ [] }
         ensures answer { (result ≡ PortAnswer.Failed) ⊎ (result ≡ PortAnswer.Ok) }
         ensures failed { result ≡ PortAnswer.Failed → Rose (faults self.old) (faults self.new) }
-        ensures after { AfterCall Pending span.old span.new span.old.ticket.pages.first span.old.ticket.pages.count result }
+        ensures after { AfterCall Pending span.old span.new
+            span.old.ticket.pages.first span.old.ticket.pages.count result }
         ensures faults_kept { faults self.old ≤ faults self.new }
         ensures room_used { room self.old ≤ room self.new + 1 }
         ensures never_fails_kept { never_fails self.old → never_fails self.new };

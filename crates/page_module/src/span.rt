@@ -25,28 +25,31 @@ pub struct Span {
 
 impl Model for Span {
     ghost use Rattle.std.specs.Prelude.{◌≡◌, ◌+◌, ◌<◌, ◌≤◌, ◌^◌, length, vec_capacity};
-    ghost use Rattle.page_module.specs.Spans.{Taken, runs_now, RunsFrom};
+    ghost use Rattle.event_core.specs.Cut.{pages_end};
+    ghost use Rattle.page_module.specs.Spans.{Taken, runs_now, RunsFrom, LieInMemory};
 
     ghost Value = { Taken };
 
     ghost view = { λ s. record { ticket = s.ticket; runs = runs_now s.runs.items } };
 
-    ghost invariant = { λ s. RunsFrom s.ticket.pages.first (s.ticket.pages.first + s.ticket.pages.count) s.runs.items
+    ghost invariant = { λ s. RunsFrom s.ticket.pages.first (pages_end s.ticket.pages) s.runs.items
         × (length s.runs.items ≤ s.ticket.runs)
-        × (0 < s.ticket.pages.count → s.ticket.pages.first + s.ticket.pages.count ≤ 2 ^ 28)
+        × LieInMemory s.ticket.pages
         × (s.ticket.room ≤ vec_capacity s.runs) };
 }
 
 impl Span {
-    ghost use Rattle.page_module.specs.States.{state_in};
-    ghost use Rattle.page_module.specs.Spans.{BeginsPending, Becomes, runs_now, RunsFrom};
+    ghost use Rattle.event_core.specs.Runs.{state_in};
+    ghost use Rattle.guest_base.specs.declared.limits.TheConstants.{PAGE_END};
+    ghost use Rattle.event_core.specs.Cut.{pages_end};
+    ghost use Rattle.page_module.specs.Spans.{BeginsPending, Becomes, runs_now, RunsFrom, LieInMemory};
     ghost use Rattle.page_module.specs.Marking.{IsFirstPending, NonePending};
 
     /// The span of a ticket and of the runs that were taken by it.
     pub(crate) fn new(ticket: Ticket, runs: Vec<TakenRun>) -> Span
-        requires runs { RunsFrom ticket.pages.first (ticket.pages.first + ticket.pages.count) runs.items }
+        requires runs { RunsFrom ticket.pages.first (pages_end ticket.pages) runs.items }
         requires few { length runs.items ≤ ticket.runs }
-        requires ends { 0 < ticket.pages.count → ticket.pages.first + ticket.pages.count ≤ 2 ^ 28 }
+        requires ends { LieInMemory ticket.pages }
         requires room { ticket.room ≤ vec_capacity runs }
         ensures { result ≡ record { ticket = ticket; runs = runs_now runs.items } }
     {
@@ -57,9 +60,10 @@ impl Span {
     pub(crate) fn into_parts(self) -> (Ticket, Vec<TakenRun>)
         ensures ticket { result.0 ≡ self.ticket }
         ensures states { runs_now result.1.items ≡ self.runs }
-        ensures runs { RunsFrom self.ticket.pages.first (self.ticket.pages.first + self.ticket.pages.count) result.1.items }
+        ensures runs { RunsFrom self.ticket.pages.first (pages_end self.ticket.pages)
+            result.1.items }
         ensures few { length result.1.items ≤ self.ticket.runs }
-        ensures ends { 0 < self.ticket.pages.count → self.ticket.pages.first + self.ticket.pages.count ≤ 2 ^ 28 }
+        ensures ends { LieInMemory self.ticket.pages }
         ensures room { self.ticket.room ≤ vec_capacity result.1 }
     {
         let Span { ticket, runs } = self;
@@ -69,8 +73,10 @@ impl Span {
     /// The span's pages. No other page has a state in it, and none lies at or above 2^28.
     pub fn pages(&self) -> Pages
         ensures value { result ≡ self.now.ticket.pages }
-        ensures below { 0 < result.count → result.first + result.count ≤ 2 ^ 28 }
-        ensures within { (page : ℕ) → state_in self.now.runs page ≢ None → in_range result.first result.count page ≡ true }
+        ensures below { LieInMemory result }
+        ensures few { result.count ≤ PAGE_END }
+        ensures within { (page : ℕ) → state_in self.now.runs page ≢ None
+            → in_range result.first result.count page ≡ true }
     {
         self.ticket.pages
     }
@@ -84,7 +90,8 @@ impl Span {
 
     /// The state of a page of the span.
     pub fn state(&self, page: Page) -> PageState
-        requires { in_range self.now.ticket.pages.first self.now.ticket.pages.count page.0 ≡ true }
+        requires { in_range self.now.ticket.pages.first self.now.ticket.pages.count page.0
+            ≡ true }
         ensures { state_in self.now.runs page.0 ≡ Some result }
     {
         for taken in &self.runs {
@@ -113,7 +120,8 @@ impl Span {
     /// Gives pages a state: the whole span any, or the first pages of a maximal run of Pending pages the
     /// state Accepted.
     pub fn mark(&mut self, pages: Pages, state: PageState)
-        requires { (pages ≡ self.old.ticket.pages) ⊎ ((state ≡ Accepted) × BeginsPending self.old pages.first pages.count) }
+        requires { (pages ≡ self.old.ticket.pages)
+            ⊎ ((state ≡ Accepted) × BeginsPending self.old pages.first pages.count) }
         ensures { Becomes state self.old self.new pages.first pages.count }
     {
         if pages == self.ticket.pages {
@@ -129,7 +137,8 @@ impl TakenRun {
 
     /// The state of one of its pages.
     fn state_of(&self, page: Page) -> PageState
-        ensures { result ≡ (if in_range self.now.run.pages.first self.now.accepted page.0 then Accepted else self.now.run.state) }
+        ensures { result ≡ (if in_range self.now.run.pages.first self.now.accepted page.0
+            then Accepted else self.now.run.state) }
     {
         let accepted = Pages {
             first: self.run.pages.first,

@@ -1,6 +1,8 @@
 //! Pages go out of the table, are changed by a port, and come back.
 ghost use Rattle.std.specs.Prelude.{◌≡◌, ◌∷◌, [], ◌+◌, ◌^◌, ◌<◌, ◌≤◌, IfOk};
 ghost use Rattle.guest_base.specs.declared.memory.PageState.TheVariants.{Accepted};
+ghost use Rattle.guest_base.specs.declared.limits.TheConstants.{PAGE_END};
+ghost use Rattle.event_core.specs.Cut.{pages_end};
 ghost use Rattle.page_module.specs.Spans.{SpanIs};
 
 use crate::{MemPort, PageTable, Port, Span};
@@ -12,7 +14,7 @@ use std::test::Fail;
 /// A table of one run's pages, and the span of these.
 fn taken(alloc: Global, run: PageRun) -> Result<(PageTable, Span), AllocError>
     requires some { 0 < run.pages.count }
-    requires end { run.pages.first + run.pages.count ≤ 2 ^ 28 }
+    requires end { pages_end run.pages ≤ PAGE_END }
     ensures pages { IfOk result (λ x. x.1.ticket.pages ≡ run.pages) }
     ensures out { IfOk result (λ x. x.0.out ≡ x.1.ticket ∷ []) }
     ensures states { IfOk result (λ x. SpanIs run.state x.1) }

@@ -1,5 +1,5 @@
 -- Runs by a map, cut by a table.
-use Rattle.std.proofs.Common.{◌≡◌, ℕ, ◌+◌, ◌-◌, ◌^◌, ◌<◌, ◌≤◌, Bool, true, false, cond, List, [], ◌∷◌, ◌++◌, length, get_or, take, Option, Some, None, inl, inr, refl, sym, ap, subst, ◌∙◌, arith}
+use Rattle.std.proofs.Common.{◌≡◌, ℕ, ◌+◌, ◌-◌, ◌^◌, ◌<◌, ◌≤◌, Bool, true, false, cond, List, [], ◌∷◌, length, get_or, take, Option, Some, None, inl, inr, refl, sym, ap, subst, ◌∙◌, arith}
 use Rattle.std.specs.Prelude.{◌&&◌, ◌||◌, ◌==◌, if◌then◌else◌, nat_le}
 use Rattle.std.specs.Option.{option_map, option_or}
 use Rattle.std.specs.List.{All, AllPairs}
@@ -9,7 +9,7 @@ use Rattle.std.proofs.lemmas.List.{take_more, get_or_default}
 use Rattle.std.proofs.Math.Seq.{take-length}
 use Rattle.std.proofs.lemmas.List.Elements.{All-nil, All-cons}
 use Rattle.guest_base.specs.declared.memory.PageState.{PageState}
-use Rattle.guest_base.specs.declared.memory.PageState.TheVariants.{Pending, Accepted, Shared}
+use Rattle.guest_base.specs.declared.memory.PageState.TheVariants.{Pending, Accepted}
 use Rattle.guest_base.specs.declared.memory.PageRun.{PageRun}
 use Rattle.event_core.specs.declared.boot.Descriptor.{Descriptor}
 use Rattle.event_core.specs.Map.{first_state, unaccepted_page, ram_page, is_ram, is_unaccepted, holds_page, IsDescriptor}
@@ -18,8 +18,8 @@ use Rattle.unaccepted_bitmap.proofs.StubLemmas.{in_range_is}
 use Rattle.event_core.specs.Runs.{state_in, run_end, run_holds, GoesBefore, AreMaximalRuns}
 use Rattle.event_core.specs.Table.{Bits, marks_page}
 use Rattle.event_core.specs.Given.{first_by}
-use Rattle.efi_map.specs.Ram.{AreBelow, IsPushed}
-use Rattle.efi_map.proofs.Joining.{state_push, no_runs}
+use Rattle.guest_map.specs.Ram.{AreBelow, IsPushed}
+use Rattle.guest_map.proofs.Joining.{state_push, no_runs}
 use Rattle.unaccepted_bitmap.specs.Fits.{state_by, cut_state, IsCut}
 
 -- the first runs by the map, cut

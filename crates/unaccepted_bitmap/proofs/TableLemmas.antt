@@ -1,13 +1,13 @@
 -- Unaccepted tables: what a table gives, and that what was written is read again.
-use Rattle.std.proofs.Common.{◌≡◌, ℕ, ◌+◌, ◌-◌, ◌*◌, ◌%◌, ◌^◌, ◌<◌, ◌≤◌, false, not, ◌==◌, List, ◌++◌, length, take, drop, length-drop, None, Some, inl, inr, Result, Ok, Err, refl, sym, ap, subst, ◌∙◌, append_assoc, arith, nat_lt}
+use Rattle.std.proofs.Common.{◌≡◌, ℕ, ◌+◌, ◌-◌, ◌%◌, ◌^◌, ◌≤◌, false, not, ◌==◌, List, ◌++◌, length, take, drop, length-drop, None, Some, inl, inr, Result, Ok, Err, refl, sym, ap, subst, ◌∙◌, append_assoc, arith, nat_lt}
 use Rattle.std.specs.Result.{IfOk}
 use Rattle.std.proofs.lemmas.Bool.Decides.{nat_tests}
 use Rattle.std.proofs.lemmas.Bool.{cases_Bool, eqb-true, le-ltb, ltb-false}
 use Rattle.std.proofs.lemmas.List.{length-append}
 use Rattle.std.proofs.Math.Seq.{take-length}
-use Rattle.efi_map.specs.MapFile.{number}
-use Rattle.efi_map.specs.Spelling.{low_bytes}
-use Rattle.efi_map.proofs.Again.{low_length, number_again, low_drop, low_past}
+use Rattle.guest_map.specs.Fields.{number}
+use Rattle.guest_map.specs.Fields.{low_bytes}
+use Rattle.guest_map.proofs.FieldLemmas.{low_length, number_again, low_drop, low_past}
 use Rattle.unaccepted_bitmap.specs.declared.table.Header.{Header}
 use Rattle.event_core.specs.Table.{Bits, IsTable, is_unit, most_bytes}
 use Rattle.unaccepted_bitmap.specs.declared.fault.TableFault.TheVariants.{BadVersion, BadUnit, BadBase, BadLength}

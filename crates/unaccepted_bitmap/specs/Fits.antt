@@ -10,7 +10,7 @@ use Rattle.event_core.specs.Map.{unaccepted_page}
 use Rattle.event_core.specs.Runs.{state_in, run_end, run_holds, AreMaximalRuns}
 use Rattle.event_core.specs.Table.{Bits, marks_page, is_unaccepted_unit}
 use Rattle.event_core.specs.Units.{bit_of}
-use Rattle.efi_map.specs.Ram.{AreBelow}
+use Rattle.guest_map.specs.Ram.{AreBelow}
 
 -- Tables and maps: units in unaccepted memory, and the pages that a table leaves pending.
 

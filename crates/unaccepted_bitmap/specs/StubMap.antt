@@ -1,7 +1,6 @@
-use Rattle.std.specs.Prelude.{ℕ, List, [], Option, None, Some, Bool, false, ◌≡◌, ◌≢◌, ◌+◌, ◌-◌, ◌*◌, ◌/◌, ◌%◌, ◌^◌, ◌<◌, ◌≤◌, ◌||◌, length, map, All, IsPermutation, if◌then◌else◌}
+use Rattle.std.specs.Prelude.{ℕ, List, [], Option, None, Some, Bool, false, ◌≡◌, ◌≢◌, ◌+◌, ◌-◌, ◌*◌, ◌/◌, ◌%◌, ◌<◌, ◌≤◌, length, map, All, IsPermutation, if◌then◌else◌}
 use Rattle.std.specs.List.{list_any}
-use Rattle.guest_base.specs.Ranges.{in_range}
-use Rattle.guest_base.specs.declared.memory.Units.{Units}
+use Rattle.guest_base.specs.declared.limits.TheConstants.{PAGE_BYTES, ADDRESS_END}
 use Rattle.guest_base.specs.declared.memory.Pages.{Pages}
 use Rattle.guest_base.specs.declared.memory.PageRun.{PageRun}
 use Rattle.guest_base.specs.declared.memory.PageState.TheVariants.{Pending}
@@ -41,16 +40,17 @@ pub record EarlyRuns (descriptors : List Descriptor) (runs : List PageRun) : Typ
 -- an unaccepted descriptor of a map: it has pages, begins on a page and ends within memory
 pub record IsUnaccepted (d : Descriptor) : Type 0 where
   pub some : 0 < d.pages
-  pub aligned : d.start % 4096 ≡ 0
-  pub below : descriptor_end d ≤ 2 ^ 40
+  pub aligned : d.start % PAGE_BYTES ≡ 0
+  pub below : descriptor_end d ≤ ADDRESS_END
 
 -- the base and the bytes of the boot stub's bitmap for these unaccepted descriptors
 pub record IsStubOf (ds : List Descriptor) (base : ℕ) (bits : List ℕ) : Type 0 where
   pub least : base ≡ round_down default_unit (least_start ds)
-  pub size : length bits ≡ (round_up default_unit (greatest_end ds) - base + 8 * default_unit - 1) / (8 * default_unit)
+  pub size : length bits ≡
+      (round_up default_unit (greatest_end ds) - base + 8 * default_unit - 1) / (8 * default_unit)
   pub each : (unit : ℕ) → bit_of bits unit ≡ list_any (sets_unit base unit) ds
-  pub low : base ≤ 2 ^ 40
-  pub below : base + unit_count bits * default_unit < 2 ^ 40 + 8 * default_unit
+  pub low : base ≤ ADDRESS_END
+  pub below : base + unit_count bits * default_unit < ADDRESS_END + 8 * default_unit
 
 -- the unaccepted descriptors of these, in rising order
 pub record IsRising (descriptors sorted : List Descriptor) : Type 0 where

@@ -1,9 +1,9 @@
 -- The unaccepted table (after Linux's struct efi_unaccepted_memory): a version, the bytes of a unit, the address of the first unit, how
 -- many bytes of bits there are, and these bytes. Numbers are little endian. Bit k mod 8 of byte k / 8 of the bits is the unit k, and a
 -- set bit means that the unit is unaccepted.
-use Rattle.std.specs.Prelude.{◌≡◌, ◌⊎◌, ℕ, ◌+◌, ◌-◌, ◌*◌, ◌/◌, ◌%◌, ◌^◌, Bool, ◌||◌, ◌==◌, nat_lt, not, List, ◌++◌, length, drop, Option, Some, None, Result, Ok, Err, if◌then◌else◌}
-use Rattle.efi_map.specs.MapFile.{number}
-use Rattle.efi_map.specs.Spelling.{low_bytes}
+use Rattle.std.specs.Prelude.{◌≡◌, ◌⊎◌, ℕ, ◌-◌, ◌%◌, ◌||◌, ◌==◌, nat_lt, not, List, ◌++◌, length, drop, Option, None, Result, Ok, Err}
+use Rattle.guest_map.specs.Fields.{number, low_bytes, refuse, unless}
+use Rattle.guest_base.specs.declared.limits.TheConstants.{ADDRESS_END}
 use Rattle.unaccepted_bitmap.specs.declared.fault.TableFault.{TableFault}
 use Rattle.unaccepted_bitmap.specs.declared.fault.TableFault.TheVariants.{Short, BadVersion, BadUnit, BadBase, BadLength, NoMemory}
 use Rattle.unaccepted_bitmap.specs.declared.table.Header.{Header}
@@ -16,18 +16,19 @@ GivesTable (Err e) read = (e ≡ NoMemory) ⊎ (read ≡ Err e)
 
 -- the fields, which stand in the first 24 bytes
 unfoldable pub header_of : List ℕ → Header
-header_of bytes = record { version = number 4 bytes; unit = number 4 (drop 4 bytes); base = number 8 (drop 8 bytes); size = number 8 (drop 16 bytes) }
+header_of bytes = record {
+  version = number 4 bytes;
+  unit = number 4 (drop 4 bytes);
+  base = number 8 (drop 8 bytes);
+  size = number 8 (drop 16 bytes);
+}
 
--- this fault where its condition holds, else what the conditions behind it say
-abbrev pub refuse : TableFault → Bool → Option TableFault → Option TableFault
-refuse fault wrong others = if wrong then Some fault else others
-
--- the first thing that is wrong with the fields, behind which so many bytes stand (own rule: their order, and the bounds)
+-- the first thing that is wrong with the fields, behind which this many bytes stand (own rule: their order, and the bounds)
 abbrev pub header_fault : Header → ℕ → Option TableFault
 header_fault h left =
     refuse (BadVersion h.version) (not (h.version == 1))
     (refuse (BadUnit h.unit) (not (is_unit h.unit))
-    (refuse (BadBase h.base) (not (h.base % h.unit == 0) || nat_lt (2 ^ 40) h.base)
+    (refuse (BadBase h.base) (not (h.base % h.unit == 0) || nat_lt ADDRESS_END h.base)
     (refuse (BadLength h.size) (not (h.size == left) || nat_lt (most_bytes h.unit h.base) h.size) None)))
 
 -- the first thing that is wrong with a table
@@ -37,11 +38,6 @@ table_fault bytes = refuse (Short (length bytes)) (nat_lt (length bytes) 24) (he
 -- the bitmap of a table with nothing wrong in it
 abbrev pub bitmap_in : List ℕ → Bits
 bitmap_in bytes = record { unit = (header_of bytes).unit; base = (header_of bytes).base; bits = drop 24 bytes }
-
--- a bitmap, or what is wrong with it
-abbrev pub unless : Option TableFault → Bits → Result Bits TableFault
-unless None b = Ok b
-unless (Some fault) b = Err fault
 
 -- the bitmap of a table, or the first thing that is wrong
 unfoldable pub table_of : List ℕ → Result Bits TableFault

@@ -1,5 +1,6 @@
 //! A bitmap of unaccepted units.
 ghost use Rattle.std.specs.Prelude.{◌≡◌, ℕ, ◌+◌, ◌^◌, ◌<◌, ◌≤◌, Ok, IfOk, IfSome};
+ghost use Rattle.guest_base.specs.declared.limits.TheConstants.{ADDRESS_END};
 ghost use Rattle.event_core.specs.Units.{unit_count, bit_of, first_run};
 ghost use Rattle.event_core.specs.Table.{IsTable};
 ghost use Rattle.unaccepted_bitmap.specs.BitmapValue.{ClearsBits, SetsBits, guarded_in, any_unit};
@@ -9,8 +10,8 @@ use crate::bytes::{clear_units, is_set, run_of_set, set_units};
 use crate::guard::guarded_units;
 use crate::stub::{UNIT, stub_bits, unaccepted};
 use crate::table::table_bytes;
-use efi_map::GuestMap;
 use guest_base::{Bytes, Unit, Units};
+use guest_map::GuestMap;
 use std::alloc::{AllocError, Global};
 use std::marker::Model;
 
@@ -30,7 +31,8 @@ impl Model for Bitmap {
 
     ghost view = { λ a. record { unit = a.unit; base = a.base; bits = a.bits.items } };
 
-    ghost invariant = { λ a. IsTable (record { unit = a.unit; base = a.base; bits = a.bits.items }) };
+    ghost invariant = { λ a.
+        IsTable (record { unit = a.unit; base = a.base; bits = a.bits.items }) };
 }
 
 impl Bitmap {
@@ -114,9 +116,10 @@ impl Bitmap {
     /// bitmap is left out. None exactly where no unit is left (after Linux's `accept_memory`).
     pub fn claim_units(&self, start: u64, len: u64) -> Option<Units>
         requires some { 1 ≤ len }
-        requires end { start + len ≤ 2 ^ 40 }
+        requires end { start + len ≤ ADDRESS_END }
         ensures units { result ≡ guarded_in self.now start len }
-        ensures inside { IfSome result (λ units. (0 < units.count) × (units.first + units.count ≤ unit_count self.now.bits)) }
+        ensures inside { IfSome result (λ units.
+            (0 < units.count) × (units.first + units.count ≤ unit_count self.now.bits)) }
         ensures kept { IsTable self.now }
     {
         guarded_units(self.unit, self.base, self.unit_count(), start, len)
@@ -125,7 +128,7 @@ impl Bitmap {
     /// Whether one of the range's guarded units is unaccepted.
     pub fn contains(&self, start: u64, len: u64) -> bool
         requires some { 1 ≤ len }
-        requires end { start + len ≤ 2 ^ 40 }
+        requires end { start + len ≤ ADDRESS_END }
         ensures { result ≡ any_unit (bit_of self.now.bits) (guarded_in self.now start len) }
     {
         match self.claim_units(start, len) {

@@ -2,8 +2,7 @@
 ghost use Rattle.std.specs.Prelude.{◌≡◌, ℕ, ◌+◌, ◌-◌, ◌^◌, ◌<◌, ◌≤◌, length, false, if◌then◌else◌, ◌==◌, ◌||◌};
 ghost use Rattle.guest_base.specs.Search.{first_such, row_length};
 ghost use Rattle.event_core.specs.Units.{bit_of, unit_count, first_run};
-ghost use Rattle.unaccepted_bitmap.specs.BitmapValue.{ClearsBits};
-ghost use Rattle.unaccepted_bitmap.specs.BitmapValue.{SetsBits};
+ghost use Rattle.unaccepted_bitmap.specs.BitmapValue.{ClearsBits, SetsBits};
 
 use guest_base::Units;
 
@@ -69,7 +68,8 @@ pub fn clear_units(bytes: &mut Vec<u8>, units: Units)
 fn clear_unit(bytes: &mut Vec<u8>, unit: u64)
     requires { unit < unit_count bytes.old.items }
     ensures size { length bytes.new.items ≡ length bytes.old.items }
-    ensures each { (k : ℕ) → bit_of bytes.new.items k ≡ (if k == unit then false else bit_of bytes.old.items k) }
+    ensures each { (k : ℕ) → bit_of bytes.new.items k ≡
+        (if k == unit then false else bit_of bytes.old.items k) }
 {
     bytes[(unit / 8) as usize] &= !(1 << (unit % 8));
 }

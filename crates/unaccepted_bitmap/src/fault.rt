@@ -12,7 +12,7 @@ pub enum TableFault {
     /// The table, of this many bytes, ends before its 24 bytes of fields do.
     #[error("the table ends too early, after {0} bytes")]
     Short(u64),
-    /// The version isn't 1.
+    /// The version, this number, isn't 1.
     #[error("version {0}")]
     BadVersion(u32),
     /// A unit, of this many bytes, isn't a power of two from 4 KiB (4,096) to 2 MiB (2,097,152).
@@ -25,7 +25,7 @@ pub enum TableFault {
     /// above 2^40.
     #[error("a bitmap of {0} bytes")]
     BadLength(u64),
-    /// Want of memory.
+    /// Out of memory.
     #[error("no memory")]
     NoMemory,
 }

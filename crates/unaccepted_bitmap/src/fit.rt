@@ -1,5 +1,6 @@
 //! Whether a table fits a map: each unit with a set bit lies in unaccepted memory.
 ghost use Rattle.std.specs.Prelude.{◌≡◌, ◌+◌, ◌*◌, ◌/◌, ◌^◌, ◌<◌, ◌&&◌, ◌≤◌, not, is_some, find, Some, IfSome, IfOk, IfErr};
+ghost use Rattle.guest_base.specs.declared.limits.TheConstants.{PAGE_BYTES};
 ghost use Rattle.guest_base.specs.Search.{each_such};
 ghost use Rattle.event_core.specs.Map.{is_unaccepted, holds_page, unaccepted_page};
 ghost use Rattle.unaccepted_bitmap.specs.Fits.{AreUnaccepted, is_bad};
@@ -7,10 +8,10 @@ ghost use Rattle.unaccepted_bitmap.specs.Fits.{AreUnaccepted, is_bad};
 use crate::bitmap::Bitmap;
 use crate::fault::BadBit;
 use crate::stub::UNACCEPTED;
-use efi_map::GuestMap;
 use event_core::Descriptor;
 use guest_base::limits::PAGE_BYTES;
 use guest_base::{Page, Pages};
+use guest_map::GuestMap;
 
 /// Whether a descriptor is unaccepted, and a page lies in it.
 fn is_holder(d: Descriptor, page: u64) -> bool
@@ -51,7 +52,8 @@ fn around(descriptors: &[Descriptor], known: Pages, page: u64) -> Option<Pages>
 fn around_each(descriptors: &[Descriptor], known: Pages, pages: Pages) -> Option<Pages>
     requires known { AreUnaccepted descriptors.now known }
     requires room { pages.first + pages.count < 2 ^ 64 }
-    ensures is { is_some result ≡ each_such (unaccepted_page descriptors.now) pages.first pages.count }
+    ensures is { is_some result ≡
+        each_such (unaccepted_page descriptors.now) pages.first pages.count }
     ensures known { IfSome result (AreUnaccepted descriptors.now) }
 {
     let mut known = known;
@@ -65,7 +67,11 @@ fn around_each(descriptors: &[Descriptor], known: Pages, pages: Pages) -> Option
 /// The pages of a unit.
 fn pages_of(unit: u64, base: u64, number: u64) -> Pages
     requires { base + number * unit < 2 ^ 64 }
-    ensures { result ≡ record { first = base / 4096 + number * (unit / 4096); count = unit / 4096 } }
+    ensures { result ≡
+        record {
+          first = base / PAGE_BYTES + number * (unit / PAGE_BYTES);
+          count = unit / PAGE_BYTES;
+        } }
 {
     let count = unit / PAGE_BYTES;
     Pages {

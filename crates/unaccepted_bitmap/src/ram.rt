@@ -1,14 +1,15 @@
 //! The RAM of a map by a table.
 ghost use Rattle.std.specs.Prelude.{◌≡◌, ◌^◌, ◌<◌, ◌≤◌, IfOk, OnOk};
+ghost use Rattle.guest_base.specs.declared.limits.TheConstants.{PAGE_END};
 ghost use Rattle.event_core.specs.Runs.{AreMaximalRuns, state_in, run_end};
-ghost use Rattle.efi_map.specs.Ram.{AreBelow};
+ghost use Rattle.guest_map.specs.Ram.{AreBelow};
 ghost use Rattle.unaccepted_bitmap.specs.Fits.{state_by, IsCut};
 
 use crate::bitmap::Bitmap;
-use efi_map::{GuestMap, push_run};
 use event_core::Runs;
 use guest_base::limits::PAGE_BYTES;
 use guest_base::{PageRun, PageState, Pages};
+use guest_map::{GuestMap, push_run};
 use std::alloc::{AllocError, Global};
 
 /// A run of one page.
@@ -55,7 +56,7 @@ impl Bitmap {
 
     /// Adds the pages of a run by the map behind maximal runs.
     fn push_cut(&self, runs: &mut Vec<PageRun>, run: PageRun) -> Result<(), AllocError>
-        requires end { run_end run ≤ 2 ^ 28 }
+        requires end { run_end run ≤ PAGE_END }
         requires below { AreBelow run.pages.first runs.old.items }
         requires maximal { AreMaximalRuns (state_in runs.old.items) runs.old.items }
         ensures { OnOk result (IsCut self.now runs.old.items run runs.new.items) }

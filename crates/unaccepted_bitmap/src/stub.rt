@@ -2,6 +2,7 @@
 ghost use Rattle.std.specs.Prelude.{◌≡◌, ◌≢◌, ℕ, [], ◌+◌, ◌-◌, ◌*◌, ◌/◌, ◌%◌, ◌^◌, ◌<◌, ◌≤◌, ◌++◌, All, IfOk, OnOk, length, map, false};
 ghost use Rattle.std.specs.List.{list_any, AllPairs};
 ghost use Rattle.std.specs.List.Sorted.{IsPermutation, IsNonDecreasingBy};
+ghost use Rattle.guest_base.specs.declared.limits.TheConstants.{ADDRESS_END};
 ghost use Rattle.guest_base.specs.Ranges.{in_range};
 ghost use Rattle.event_core.specs.Map.{is_unaccepted, descriptor_end, MapRules, IsDescriptor, AreApart};
 ghost use Rattle.event_core.specs.Stub.{default_unit, round_down, round_up, unaccepted, least_start, greatest_end, is_short, piece, early_of};
@@ -10,10 +11,10 @@ ghost use Rattle.event_core.specs.Units.{bit_of, unit_count};
 ghost use Rattle.unaccepted_bitmap.specs.StubMap.{sets_unit, pending_run, EarlyRuns, IsUnaccepted, IsStubOf, IsRising};
 
 use crate::bytes::set_units;
-use efi_map::GuestMap;
 use event_core::{Descriptor, Runs};
 use guest_base::limits::PAGE_BYTES;
 use guest_base::{PageRun, PageState, Pages, Units};
+use guest_map::GuestMap;
 use std::alloc::{AllocError, Global};
 
 /// The bytes of a unit where no table is handed in: 2 MiB.
@@ -55,9 +56,11 @@ fn base(descriptors: &[Descriptor]) -> u64
 
 /// The bytes of a bitmap from the base up to the greatest end of the descriptors, rounded up to a unit.
 fn bitmap_bytes(descriptors: &[Descriptor], base: u64) -> u64
-    requires ends { All (λ d. descriptor_end d ≤ 2 ^ 40) descriptors.now }
+    requires ends { All (λ d. descriptor_end d ≤ ADDRESS_END) descriptors.now }
     requires base { base ≤ greatest_end descriptors.now }
-    ensures { result ≡ (round_up default_unit (greatest_end descriptors.now) - base + 8 * default_unit - 1) / (8 * default_unit) }
+    ensures { result ≡
+        (round_up default_unit (greatest_end descriptors.now) - base + 8 * default_unit - 1)
+        / (8 * default_unit) }
 {
     let end = greatest_end(descriptors);
     (end.next_multiple_of(UNIT) - base).div_ceil(8 * UNIT)
@@ -65,14 +68,16 @@ fn bitmap_bytes(descriptors: &[Descriptor], base: u64) -> u64
 
 /// Sets the bits of the units that lie wholly in a descriptor of two units or more.
 fn set_whole_units(bits: &mut Vec<u8>, base: u64, descriptors: &[Descriptor])
-    requires aligned { base % 2097152 ≡ 0 }
+    requires aligned { base % default_unit ≡ 0 }
     requires room { unit_count bits.old.items < 2 ^ 64 }
     requires starts { All (λ d. base ≤ d.start) descriptors.now }
-    requires ends { All (λ d. descriptor_end d ≤ base + unit_count bits.old.items * 2097152) descriptors.now }
-    requires below { All (λ d. descriptor_end d ≤ 2 ^ 40) descriptors.now }
+    requires ends { All (λ d. descriptor_end d ≤
+        base + unit_count bits.old.items * default_unit) descriptors.now }
+    requires below { All (λ d. descriptor_end d ≤ ADDRESS_END) descriptors.now }
     requires clear { (unit : ℕ) → bit_of bits.old.items unit ≡ false }
     ensures size { length bits.new.items ≡ length bits.old.items }
-    ensures each { (unit : ℕ) → bit_of bits.new.items unit ≡ list_any (sets_unit base unit) descriptors.now }
+    ensures each { (unit : ℕ) → bit_of bits.new.items unit ≡
+        list_any (sets_unit base unit) descriptors.now }
 {
     for d in descriptors {
         set_units(bits, whole_units(*d, base));
@@ -109,7 +114,8 @@ fn unaccepted_rising(
 
 fn sort_by_start(descriptors: &mut Vec<Descriptor>) -> Result<(), AllocError>
     ensures same { IsPermutation descriptors.old.items descriptors.new.items }
-    ensures rise { OnOk result (IsNonDecreasingBy (λ (d : Descriptor). d.start) descriptors.new.items) }
+    ensures rise { OnOk result
+        (IsNonDecreasingBy (λ (d : Descriptor). d.start) descriptors.new.items) }
 {
     descriptors.sort_by_key(|d| d.start)?;
     Ok(())
@@ -139,9 +145,9 @@ fn furthest_end(descriptors: &[Descriptor]) -> u128
 }
 
 fn greatest_end(descriptors: &[Descriptor]) -> u64
-    requires { All (λ d. descriptor_end d ≤ 2 ^ 40) descriptors.now }
+    requires { All (λ d. descriptor_end d ≤ ADDRESS_END) descriptors.now }
     ensures value { result ≡ greatest_end descriptors.now }
-    ensures below { result ≤ 2 ^ 40 }
+    ensures below { result ≤ ADDRESS_END }
 {
     furthest_end(descriptors) as u64
 }
@@ -155,11 +161,11 @@ fn is_short(d: Descriptor) -> bool
 
 /// The units of a bitmap with this base that lie wholly in a descriptor; none where it is short.
 fn whole_units(d: Descriptor, base: u64) -> Units
-    requires aligned { base % 2097152 ≡ 0 }
+    requires aligned { base % default_unit ≡ 0 }
     requires start { base ≤ d.start }
-    requires end { descriptor_end d ≤ 2 ^ 40 }
+    requires end { descriptor_end d ≤ ADDRESS_END }
     ensures units { (unit : ℕ) → in_range result.first result.count unit ≡ sets_unit base unit d }
-    ensures inside { result.first + result.count ≤ (descriptor_end d - base) / 2097152 }
+    ensures inside { result.first + result.count ≤ (descriptor_end d - base) / default_unit }
 {
     if is_short(d) {
         return Units { first: 0, count: 0 };
@@ -173,7 +179,7 @@ fn whole_units(d: Descriptor, base: u64) -> Units
 }
 
 fn push_early(pieces: &mut Vec<PageRun>, d: Descriptor) -> Result<(), AllocError>
-    requires { descriptor_end d ≤ 2 ^ 40 }
+    requires { descriptor_end d ≤ ADDRESS_END }
     ensures { OnOk result (pieces.new.items ≡ pieces.old.items ++ map pending_run (early_of d)) }
 {
     let end = d.start + d.pages * PAGE_BYTES;

@@ -1,6 +1,6 @@
 //! The file of an unaccepted table (after Linux's `struct efi_unaccepted_memory`). Numbers are little endian.
 ghost use Rattle.std.specs.Prelude.{◌≡◌, ◌*◌, ◌^◌, ◌<◌, ◌≤◌, ◌++◌, IfOk, OnOk, length};
-ghost use Rattle.efi_map.specs.Spelling.{low_bytes};
+ghost use Rattle.guest_base.specs.declared.limits.TheConstants.{ADDRESS_END};
 ghost use Rattle.event_core.specs.Table.{is_unit, most_bytes};
 ghost use Rattle.unaccepted_bitmap.specs.TableFile.{GivesTable, header_of, header_fault, table_of, table_bytes_of};
 
@@ -9,6 +9,7 @@ use crate::fault::TableFault;
 use byteorder::{ByteOrder, LittleEndian};
 use guest_base::Bytes;
 use guest_base::limits::ADDRESS_END;
+use guest_map::{put_long, put_word};
 use std::alloc::{AllocError, Global};
 
 /// The version of a table.
@@ -29,7 +30,7 @@ pub struct Header {
     pub size: u64,
 }
 
-#[tactic(auto, unfolding(efi_map::specs::MapFile::number, crate::specs::TableFile::header_of))]
+#[tactic(auto, unfolding(guest_map::specs::Fields::number, crate::specs::TableFile::header_of))]
 fn read_header(bytes: &[u8]) -> Header
     requires { 24 ≤ length bytes.now }
     ensures { result ≡ header_of bytes.now }
@@ -42,7 +43,7 @@ fn read_header(bytes: &[u8]) -> Header
     }
 }
 
-/// Whether so many bytes are a unit: a power of two from 4 KiB to 2 MiB.
+/// Whether this many bytes are a unit: a power of two from 4 KiB to 2 MiB.
 fn is_unit(unit: u64) -> bool
     ensures { result ≡ is_unit unit }
 {
@@ -58,13 +59,13 @@ fn is_unit(unit: u64) -> bool
 fn most_bytes(unit: u64, base: u64) -> u64
     requires some { 0 < unit }
     requires room { 8 * unit < 2 ^ 64 }
-    requires low { base ≤ 2 ^ 40 }
+    requires low { base ≤ ADDRESS_END }
     ensures { result ≡ most_bytes unit base }
 {
     (ADDRESS_END - base).div_ceil(8 * unit)
 }
 
-/// The first thing that is wrong with the fields of a table behind which so many bytes stand.
+/// The first thing that is wrong with the fields of a table behind which this many bytes stand.
 fn header_fault(header: Header, left: u64) -> Option<TableFault>
     ensures { result ≡ header_fault header left }
 {
@@ -103,32 +104,17 @@ pub fn read_table(alloc: Global, bytes: &[u8]) -> Result<Bitmap, TableFault>
     ))
 }
 
-/// Adds the lowest 4 bytes of a number.
-#[tactic(auto, unfolding(efi_map::specs::Spelling::low_bytes))]
-fn put_word(out: &mut Vec<u8>, number: u64) -> Result<(), AllocError>
-    ensures { OnOk result (out.new.items ≡ out.old.items ++ low_bytes 4 number) }
-{
-    out.extend_from_slice(&number.to_le_bytes()[..4])
-}
-
-/// Adds the 8 bytes of a number.
-#[tactic(auto, unfolding(efi_map::specs::Spelling::low_bytes))]
-fn put_long(out: &mut Vec<u8>, number: u64) -> Result<(), AllocError>
-    ensures { OnOk result (out.new.items ≡ out.old.items ++ low_bytes 8 number) }
-{
-    out.extend_from_slice(&number.to_le_bytes())
-}
-
 /// The table of a bitmap of these bytes of a unit, this base in bytes, and these bits.
 #[tactic(auto, unfolding(crate::specs::TableFile::table_bytes_of))]
 pub fn table_bytes(alloc: Global, unit: u64, base: u64, bits: &[u8]) -> Result<Bytes, AllocError>
-    ensures { IfOk result (λ bytes. bytes ≡ table_bytes_of (record { unit = unit; base = base; bits = bits.now })) }
+    ensures { IfOk result (λ bytes. bytes ≡
+        table_bytes_of (record { unit = unit; base = base; bits = bits.now })) }
 {
     let mut out = Vec::new(alloc);
     put_word(&mut out, VERSION)?;
     put_word(&mut out, unit)?;
-    put_long(&mut out, base)?;
-    put_long(&mut out, bits.len() as u64)?;
+    put_long(&mut out, u128::from(base))?;
+    put_long(&mut out, bits.len() as u128)?;
     out.extend_from_slice(bits)?;
     Ok(Bytes::from_vec(out))
 }

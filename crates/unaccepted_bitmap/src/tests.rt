@@ -1,40 +1,23 @@
-ghost use Rattle.std.specs.Prelude.{◌<◌};
+ghost use Rattle.std.specs.Prelude.{◌<◌, ◌≤◌, ◌+◌, ◌^◌, IfOk};
+ghost use Rattle.event_core.specs.Map.{MapRules};
 
 use crate::{BadBit, Bitmap, TableFault, early, read_table};
-use efi_map::read_map;
 use guest_base::{PageRun, PageState, Pages, Unit, Units};
+use guest_map::GuestMap;
 use std::alloc::{AllocError, Global};
 use std::test::Fail;
 
-/// Conventional memory below 4 MiB, and 8 MiB of unaccepted memory behind it.
-const FOUR_UNITS: [u8; 100] = [
-    0x47, 0x4d, 0x41, 0x50, 40, 0, 0, 0, 1, 0, 0, 0, 2, 0, 0, 0, //
-    7, 0, 0, 0, 0, 0, 0, 0, 0, 0, 0, 0, 0, 0, 0, 0, 0, 0, 0, 0, 0, 0, 0, 0, //
-    0, 4, 0, 0, 0, 0, 0, 0, 0, 0, 0, 0, 0, 0, 0, 0, //
-    15, 0, 0, 0, 0, 0, 0, 0, 0, 0, 0x40, 0, 0, 0, 0, 0, 0, 0, 0, 0, 0, 0, 0, 0, //
-    0, 8, 0, 0, 0, 0, 0, 0, 0, 0, 0, 0, 0, 0, 0, 0, //
-    0, 0, 0, 0,
-];
+/// A map of unaccepted memory alone: these pages.
+fn map_of(alloc: Global, first: u64, count: u64) -> Result<GuestMap, AllocError>
+    requires some { 0 < count }
+    requires end { first + count ≤ 2 ^ 28 }
+    requires few { count ≤ 2 ^ 24 }
+    ensures { IfOk result (λ map. MapRules map.descriptors map.hosts) }
+{
+    GuestMap::unaccepted(alloc, Pages { first, count })
+}
 
-/// 12 MiB of unaccepted memory from 0x401000 on.
-const UNALIGNED: [u8; 60] = [
-    0x47, 0x4d, 0x41, 0x50, 40, 0, 0, 0, 1, 0, 0, 0, 1, 0, 0, 0, //
-    15, 0, 0, 0, 0, 0, 0, 0, 0, 0x10, 0x40, 0, 0, 0, 0, 0, 0, 0, 0, 0, 0, 0, 0, 0, //
-    0, 12, 0, 0, 0, 0, 0, 0, 0, 0, 0, 0, 0, 0, 0, 0, //
-    0, 0, 0, 0,
-];
-
-/// Conventional memory below 4 MiB, and 1,023 pages of unaccepted memory behind it, which are less than two units.
-const SHORT: [u8; 100] = [
-    0x47, 0x4d, 0x41, 0x50, 40, 0, 0, 0, 1, 0, 0, 0, 2, 0, 0, 0, //
-    7, 0, 0, 0, 0, 0, 0, 0, 0, 0, 0, 0, 0, 0, 0, 0, 0, 0, 0, 0, 0, 0, 0, 0, //
-    0, 4, 0, 0, 0, 0, 0, 0, 0, 0, 0, 0, 0, 0, 0, 0, //
-    15, 0, 0, 0, 0, 0, 0, 0, 0, 0, 0x40, 0, 0, 0, 0, 0, 0, 0, 0, 0, 0, 0, 0, 0, //
-    0xff, 3, 0, 0, 0, 0, 0, 0, 0, 0, 0, 0, 0, 0, 0, 0, //
-    0, 0, 0, 0,
-];
-
-/// The table of the bitmap of `FOUR_UNITS`: version 1, units of 2 MiB from 4 MiB on, and a byte of bits.
+/// The table of the bitmap of 8 MiB of unaccepted memory: version 1, units of 2 MiB from 4 MiB on, and a byte of bits.
 const FOUR_UNITS_TABLE: [u8; 25] = [
     1, 0, 0, 0, 0, 0, 0x20, 0, 0, 0, 0x40, 0, 0, 0, 0, 0, 1, 0, 0, 0, 0, 0, 0, 0, 0x0f,
 ];
@@ -45,7 +28,7 @@ fn units(first: u64, count: u64) -> Option<Units> {
 
 #[test]
 fn guarded_units(rt: HostRuntime) -> Result<(), Fail> {
-    let map = read_map(rt.alloc(), &FOUR_UNITS)?;
+    let map = map_of(rt.alloc(), 1024, 2048)?;
     let bitmap = Bitmap::of_map(rt.alloc(), &map)?.ok_or("no bitmap")?;
     assert_eq!(rt; bitmap.claim_units(0x0, 0x1000), None);
     assert_eq!(rt; bitmap.claim_units(0x0, 0x400000), units(0, 1));
@@ -60,7 +43,7 @@ fn guarded_units(rt: HostRuntime) -> Result<(), Fail> {
 
 #[test]
 fn runs(rt: HostRuntime) -> Result<(), Fail> {
-    let map = read_map(rt.alloc(), &FOUR_UNITS)?;
+    let map = map_of(rt.alloc(), 1024, 2048)?;
     let bitmap = Bitmap::of_map(rt.alloc(), &map)?.ok_or("no bitmap")?;
     let bytes = bitmap.copy_bytes(rt.alloc())?;
     assert_eq!(rt; bytes.as_slice(), [0x0f].as_slice());
@@ -72,11 +55,13 @@ fn runs(rt: HostRuntime) -> Result<(), Fail> {
 
 #[test]
 fn unaligned_ends(rt: HostRuntime) -> Result<(), Fail> {
-    let map = read_map(rt.alloc(), &UNALIGNED)?;
+    let map = map_of(rt.alloc(), 0x401, 3072)?;
     let bitmap = Bitmap::of_map(rt.alloc(), &map)?.ok_or("no bitmap")?;
     assert_eq!(rt; bitmap.base(), 0x400000);
     let bytes = bitmap.copy_bytes(rt.alloc())?;
     assert_eq!(rt; bytes.as_slice(), [0x3e].as_slice());
+    let table = bitmap.table_bytes(rt.alloc())?;
+    assert_eq!(rt; table.as_slice(), table_with(0x3e).as_slice());
     let pieces = [pending(0x401, 0x1ff), pending(0x1000, 1)];
     assert_eq!(rt; early(rt.alloc(), &map)?.as_slice(), pieces.as_slice());
     Ok(())
@@ -91,30 +76,12 @@ fn table_with(bits: u8) -> [u8; 25] {
 
 #[test]
 fn short_descriptor(rt: HostRuntime) -> Result<(), Fail> {
-    let map = read_map(rt.alloc(), &SHORT)?;
+    let map = map_of(rt.alloc(), 1024, 1023)?;
     let bitmap = Bitmap::of_map(rt.alloc(), &map)?.ok_or("no bitmap")?;
     let table = bitmap.table_bytes(rt.alloc())?;
     assert_eq!(rt; table.as_slice(), table_with(0).as_slice());
     let pieces = [pending(0x400, 0x3ff)];
     assert_eq!(rt; early(rt.alloc(), &map)?.as_slice(), pieces.as_slice());
-    Ok(())
-}
-
-#[test]
-fn writes_a_table(rt: HostRuntime) -> Result<(), Fail> {
-    let map = read_map(rt.alloc(), &FOUR_UNITS)?;
-    let bitmap = Bitmap::of_map(rt.alloc(), &map)?.ok_or("no bitmap")?;
-    let table = bitmap.table_bytes(rt.alloc())?;
-    assert_eq!(rt; table.as_slice(), FOUR_UNITS_TABLE.as_slice());
-    Ok(())
-}
-
-#[test]
-fn writes_an_unaligned_table(rt: HostRuntime) -> Result<(), Fail> {
-    let map = read_map(rt.alloc(), &UNALIGNED)?;
-    let bitmap = Bitmap::of_map(rt.alloc(), &map)?.ok_or("no bitmap")?;
-    let table = bitmap.table_bytes(rt.alloc())?;
-    assert_eq!(rt; table.as_slice(), table_with(0x3e).as_slice());
     Ok(())
 }
 
@@ -152,25 +119,20 @@ fn small_units(alloc: Global) -> Result<Vec<u8>, AllocError> {
 
 #[test]
 fn fits_small_units(rt: HostRuntime) -> Result<(), Fail> {
-    let map = read_map(rt.alloc(), &FOUR_UNITS)?;
+    let map = map_of(rt.alloc(), 1024, 2048)?;
     let bitmap = read_table(rt.alloc(), &small_units(rt.alloc())?)?;
     assert_eq!(rt; bitmap.unit(), 0x1000);
     let bitmap = bitmap.fit(&map).ok().ok_or("a bad bit")?;
     let runs = bitmap.ram(rt.alloc(), &map)?;
-    let accepted = PageRun {
-        pages: Pages {
-            first: 0,
-            count: 1536,
-        },
-        state: PageState::Accepted,
-    };
+    let mut accepted = pending(1024, 512);
+    accepted.state = PageState::Accepted;
     assert_eq!(rt; runs.as_slice(), [accepted, pending(1536, 1536)].as_slice());
     Ok(())
 }
 
 #[test]
 fn refuses_a_bad_bit(rt: HostRuntime) -> Result<(), Fail> {
-    let map = read_map(rt.alloc(), &FOUR_UNITS)?;
+    let map = map_of(rt.alloc(), 1024, 2048)?;
     let mut table = table_with(1);
     table[10] = 0;
     let bitmap = read_table(rt.alloc(), &table)?;
@@ -198,17 +160,13 @@ fn fault_at(alloc: Global, at: usize, byte: u8) -> Option<TableFault>
 }
 
 #[test]
-fn refuses_three_pages_a_unit(rt: HostRuntime) {
+fn refuses_changed_tables(rt: HostRuntime) {
+    let alloc = rt.alloc();
     let mut table = FOUR_UNITS_TABLE;
     table[5] = 0x30;
     table[6] = 0;
-    let fault = read_table(rt.alloc(), &table).err();
+    let fault = read_table(alloc, &table).err();
     assert_eq!(rt; fault, Some(TableFault::BadUnit(12288)));
-}
-
-#[test]
-fn refuses_changed_tables(rt: HostRuntime) {
-    let alloc = rt.alloc();
     assert_eq!(rt; fault_at(alloc, 0, 2), Some(TableFault::BadVersion(2)));
     assert_eq!(rt;
         fault_at(alloc, 6, 0x30),

@@ -6,7 +6,7 @@ use Rattle.accept_sizes.specs.Room.{most_calls_of}
 use Rattle.accept_sizes.specs.Accepts.{span_end}
 use Rattle.page_module.specs.Marking.{NonePending}
 use Rattle.page_module.specs.Modules.{accept_call}
-use Rattle.accept_sizes.proofs.Going.{calls_left, within-of, found-run, found-may, was-not-small, left-here, done-left, left-first, going-done, going-failed, going-stopped, going-whole, small-failed, left-failed, after-done, after-undone, calls-push, going-start, span-end, found-some, before-span}
+use Rattle.accept_sizes.proofs.Going.{length-calls, calls_left, within-of, found-run, found-may, was-not-small, left-here, done-left, left-first, going-done, going-failed, going-stopped, going-whole, small-failed, left-failed, after-done, after-undone, calls-push, going-start, span-end, found-some, before-span}
 use Rattle.accept_sizes.proofs.accept.accept_run.Goals as goal
 
 pub try_call-answer-requires-clause-room : goal.try_call-answer-requires-clause-room
@@ -15,7 +15,7 @@ try_call-answer-requires-clause-room g c κs w =
     let going = inv.done.3 in
     let found = found-run c.args.hosts.now c.args.span.now c.loop-run.span c.loop-run.from c.loop-run.tried inv.done.0 c.in-Some.run'.first c.in-Some.run'.count (within-of c.args.span.now c.pages-from.result c.pages-from.ensures.value c.pages-from.ensures.within) going c.in-Some.ensures.some in
     let left = left-here c.args.span.now c.loop-run.from c.in-Some.run'.first c.in-Some.run'.count c.loop-run.tried found (was-not-small c.loop-run.span c.loop-run.from c.loop-run.tried going.here) in
-    omega (arith, left, inv.room)
+    omega (arith, left, inv.few, inv.room, c.requires.room)
 
 pub try_call-answer-requires-clause-log_room : goal.try_call-answer-requires-clause-log_room
 try_call-answer-requires-clause-log_room g c κs w =
@@ -23,7 +23,9 @@ try_call-answer-requires-clause-log_room g c κs w =
     let going = inv.done.3 in
     let found = found-run c.args.hosts.now c.args.span.now c.loop-run.span c.loop-run.from c.loop-run.tried inv.done.0 c.in-Some.run'.first c.in-Some.run'.count (within-of c.args.span.now c.pages-from.result c.pages-from.ensures.value c.pages-from.ensures.within) going c.in-Some.ensures.some in
     let left = left-here c.args.span.now c.loop-run.from c.in-Some.run'.first c.in-Some.run'.count c.loop-run.tried found (was-not-small c.loop-run.span c.loop-run.from c.loop-run.tried going.here) in
-    omega (arith, left, inv.log_room)
+    let made = length-calls (g.P.Port.made c.args.port.now) (g.P.Port.made c.loop-run.port) inv.done.0 inv.done.2 in
+    let noted = length-calls c.args.log.now.calls c.loop-run.log.calls inv.done.0 inv.done.1 in
+    omega (arith, left, inv.few, inv.log_room, made, noted, c.requires.log_room)
 
 pub try_call-answer-requires-clause-may : goal.try_call-answer-requires-clause-may
 try_call-answer-requires-clause-may g c κs w =
@@ -50,8 +52,9 @@ loop-run-init g c =
     record {
       done = ([], sym (append-nil c.args.log.now.calls), sym (append-nil (g.P.Port.made c.args.port.now)), going-start c.args.hosts.now old c.pages-from.result.first is inside (before-span old c.pages-from.result c.pages-from.ensures.within));
       high = omega (arith, is);
-      room = omega (arith, rooms, c.requires.room);
-      log_room = omega (arith, rooms, c.requires.log_room);
+      few = omega (arith, rooms);
+      room = omega arith;
+      log_room = omega arith;
       faults = omega arith;
       never_fails = λ h. h;
     }
@@ -75,6 +78,7 @@ loop-run-preserved-then-eq g c =
     let done : c.try_call-answer.result ≡ AnsweredOk = search rules in
     let call = accept_call c.in-Some.run'.first c.level_to_try-level.result c.try_call-answer.result in
     let e = c.try_call-answer.ensures in
+    let more = length-calls (g.P.Port.made c.loop-run.port) (g.P.Port.made c.try_call-answer.new.port) (call ∷ []) e.made in
     rw c.pages.ensures
     (record {
       done = (
@@ -85,8 +89,9 @@ loop-run-preserved-then-eq g c =
             (after-done c.loop-run.span c.try_call-answer.new.span _ _ _ e.after done),
       );
       high = left.0;
-      room = omega (arith, left.1, e.room, inv.room);
-      log_room = omega (arith, left.1, e.log_room, inv.log_room);
+      few = omega (arith, left.1, more, inv.few);
+      room = omega (arith, more, e.room, inv.room);
+      log_room = omega (arith, length-calls c.loop-run.log.calls c.try_call-answer.new.log.calls (call ∷ []) e.noted, e.log_room, inv.log_room);
       faults = omega (arith, e.faults, inv.faults);
       never_fails = λ h. e.never_fails (inv.never_fails h);
     })
@@ -133,6 +138,7 @@ loop-run-preserved g c =
     let call = accept_call c.in-Some.run'.first c.level_to_try-level.result c.try_call-answer.result in
     let e = c.try_call-answer.ensures in
     let below = found.below in
+    let more = length-calls (g.P.Port.made c.loop-run.port) (g.P.Port.made c.try_call-answer.new.port) (call ∷ []) e.made in
     record {
       done = (
         inv.done.0 ++ call ∷ [],
@@ -142,8 +148,9 @@ loop-run-preserved g c =
             (after-undone c.loop-run.span c.try_call-answer.new.span _ _ _ e.after undone) big,
       );
       high = omega (arith, below);
-      room = omega (arith, left, e.room, inv.room);
-      log_room = omega (arith, left, e.log_room, inv.log_room);
+      few = omega (arith, left, more, inv.few);
+      room = omega (arith, more, e.room, inv.room);
+      log_room = omega (arith, length-calls c.loop-run.log.calls c.try_call-answer.new.log.calls (call ∷ []) e.noted, e.log_room, inv.log_room);
       faults = omega (arith, e.faults, inv.faults);
       never_fails = λ h. e.never_fails (inv.never_fails h);
     }
@@ -154,3 +161,13 @@ returns-clause-calls g c =
     let none : NonePending c.loop-run.span c.loop-run.from = c.in_default.ensures.none in
     let whole = going-whole c.args.hosts.now c.args.span.now c.loop-run.span c.loop-run.from c.loop-run.tried inv.done.0 inv.done.3 none in
     (inv.done.0, inv.done.1, inv.done.2, whole.0, whole.1)
+
+pub returns-then-eq-2-clause-few : goal.returns-then-eq-2-clause-few
+returns-then-eq-2-clause-few g c =
+    let inv = c.loop-run.invariant in
+    let going = inv.done.3 in
+    let found = found-run c.args.hosts.now c.args.span.now c.loop-run.span c.loop-run.from c.loop-run.tried inv.done.0 c.in-Some.run'.first c.in-Some.run'.count (within-of c.args.span.now c.pages-from.result c.pages-from.ensures.value c.pages-from.ensures.within) going c.in-Some.ensures.some in
+    let left = left-here c.args.span.now c.loop-run.from c.in-Some.run'.first c.in-Some.run'.count c.loop-run.tried found (was-not-small c.loop-run.span c.loop-run.from c.loop-run.tried going.here) in
+    let call = accept_call c.in-Some.run'.first c.level_to_try-level.result c.try_call-answer.result in
+    let more = length-calls (g.P.Port.made c.loop-run.port) (g.P.Port.made c.try_call-answer.new.port) (call ∷ []) c.try_call-answer.ensures.made in
+    omega (arith, left, more, inv.few)

@@ -1,5 +1,5 @@
 use Rattle.std.proofs.Common.{arith}
-use Rattle.page_module.specs.States.{state_in}
+use Rattle.event_core.specs.Runs.{state_in}
 use Rattle.page_module.proofs.CopyLemmas.{run_count-few}
 use Rattle.accept_sizes.proofs.tests.pending_span.Goals as goal
 

@@ -9,4 +9,5 @@ invariant-loop-block g l = record {
   leads : LeadsTo (AcceptsBlock l.boot) (g.P.Port.made l.fn.port) l.blocks (g.P.Port.made l.port) (drop l.block-index l.blocks);
   stands : StandsAfter l.boot (g.P.Port.made l.port) l.kept;
   faults : g.P.Port.faults l.fn.port ≤ g.P.Port.faults l.port;
+  never_fails : g.P.Port.never_fails l.fn.port → g.P.Port.never_fails l.port;
 }

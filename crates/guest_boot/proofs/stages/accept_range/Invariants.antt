@@ -12,4 +12,5 @@ invariant-loop-run g l = record {
   stands : StandsAfter l.boot (g.P.Port.made l.port) l.kept;
   set : SetRuns (bits_in l.kept.bits) 0 (drop l.run-index l.run-items);
   faults : g.P.Port.faults l.fn.port ≤ g.P.Port.faults l.port;
+  never_fails : g.P.Port.never_fails l.fn.port → g.P.Port.never_fails l.port;
 }

@@ -1,11 +1,16 @@
-use Rattle.std.proofs.Common.{sym, ◌∙◌, ap, subst, arith, All, List}
+use Rattle.std.proofs.Common.{[], ◌∷◌, sym, ◌∙◌, ap, subst, arith, All, List}
 use Rattle.event_core.specs.declared.boot.Boot.{Boot}
 use Rattle.event_core.specs.declared.command.Command.{Command}
 use Rattle.event_core.specs.Calls.{SoundCalls}
+use Rattle.event_core.specs.RangedScripts.{IsRanged}
 use Rattle.event_core.specs.Runs.{state_in}
-use Rattle.guest_run.specs.First.{IsFirstCommand}
+use Rattle.guest_run.specs.Asking.{asking}
 use Rattle.guest_run.specs.Ready.{calls_by_now}
-use Rattle.guest_run.proofs.RunLemmas.{once_of, untouched_of, disjoint_of, told_of, full_of, made_of}
+use Rattle.guest_run.specs.Recordings.{BootOfOne, HaltedAt}
+use Rattle.guest_run.proofs.FaultLemmas.{on_err}
+use Rattle.guest_run.proofs.ReadyLemmas.{ready-halted}
+use Rattle.guest_run.proofs.RunLemmas.{keeps_of}
+use Rattle.guest_run.proofs.WithinLemmas.{final_of}
 use Rattle.guest_run.proofs.one.turns.Goals as goal
 
 pub loop-number-preserved : goal.loop-number-preserved
@@ -19,34 +24,36 @@ loop-number-preserved g c =
       script = e.script ∙ i.script;
       told = e.told (g.P.Port.faults c.args.port.now) i.faults i.told;
       faults = omega (arith, i.faults, e.faults);
+      never_fails = λ n. e.never_fails (i.never_fails n);
     }
 
-pub returns-clause-accepted_once : goal.returns-clause-accepted_once
-returns-clause-accepted_once g c =
+pub finished-requires-clause-ranged : goal.finished-requires-clause-ranged
+finished-requires-clause-ranged g c = let F : List Command → Type 0 = All IsRanged in subst F (sym c.loop-number.invariant.script) c.requires.ranged
+
+pub returns-clause-run : goal.returns-clause-run
+returns-clause-run g c =
     let i = c.loop-number.invariant in
-    let F : List Command → Type 0 = All IsFirstCommand in
+    let F : List Command → Type 0 = All IsRanged in
     let S : Boot → Type 0 = λ b. SoundCalls (state_in b.ram) b.calls in
-    once_of c.finished.result c.loop-number.processor.boot c.loop-number.processor.script (subst F (sym i.script) c.requires.first) (ap (λ (b : Boot). b.cpus) i.boot ∙ c.requires.right.7.same_cpus) (subst S (sym i.boot) c.requires.stands.sound) c.finished.ensures.boot c.finished.ensures.scripts c.finished.ensures.history
+    keeps_of g.P.Port.made g.P.Port.faults g.P.Port.never_fails c.args.port.now c.loop-number.port c.loop-number.processor.boot c.loop-number.processor.script c.loop-number.processor.entries (calls_by_now c.loop-number.processor) c.finished.result
+    (subst F (sym i.script) c.requires.ranged) (ap (λ (b : Boot). b.cpus) i.boot ∙ c.requires.right.7.uncalled.same_cpus) (subst S (sym i.boot) c.requires.stands.sound) i.made i.told
+    c.finished.ensures.boot c.finished.ensures.scripts c.finished.ensures.history c.finished.ensures.calls c.finished.ensures.entries
 
-pub returns-clause-untouched : goal.returns-clause-untouched
-returns-clause-untouched g c =
-    let F : List Command → Type 0 = All IsFirstCommand in
-    untouched_of c.finished.result c.loop-number.processor.script (subst F (sym c.loop-number.invariant.script) c.requires.first) c.finished.ensures.scripts c.finished.ensures.history
+pub returns-clause-final_runs : goal.returns-clause-final_runs
+returns-clause-final_runs g c =
+    let i = c.loop-number.invariant in
+    let F : List Command → Type 0 = All IsRanged in
+    let S : Boot → Type 0 = λ b. SoundCalls (state_in b.ram) b.calls in
+    let B : Boot → Type 0 = BootOfOne in
+    final_of (asking g.P.Port.made g.P.Port.faults g.P.Port.never_fails (c.args.port.now ∷ []) (c.loop-number.port ∷ [])) c.loop-number.processor.boot c.finished.result (subst B (sym i.boot) c.requires.right) c.finished.ensures.boot
+    (keeps_of g.P.Port.made g.P.Port.faults g.P.Port.never_fails c.args.port.now c.loop-number.port c.loop-number.processor.boot c.loop-number.processor.script c.loop-number.processor.entries (calls_by_now c.loop-number.processor) c.finished.result
+    (subst F (sym i.script) c.requires.ranged) (ap (λ (b : Boot). b.cpus) i.boot ∙ c.requires.right.7.uncalled.same_cpus) (subst S (sym i.boot) c.requires.stands.sound) i.made i.told
+    c.finished.ensures.boot c.finished.ensures.scripts c.finished.ensures.history c.finished.ensures.calls c.finished.ensures.entries)
+    c.finished.ensures.runs
 
-pub returns-clause-disjoint : goal.returns-clause-disjoint
-returns-clause-disjoint g c =
-    let F : List Command → Type 0 = All IsFirstCommand in
-    disjoint_of c.finished.result c.loop-number.processor.script (subst F (sym c.loop-number.invariant.script) c.requires.first) c.finished.ensures.scripts c.finished.ensures.history
-
-pub returns-clause-bytes : goal.returns-clause-bytes
-returns-clause-bytes g c =
-    let F : List Command → Type 0 = All IsFirstCommand in
-    told_of c.finished.result c.loop-number.processor.script (subst F (sym c.loop-number.invariant.script) c.requires.first) c.finished.ensures.scripts
-
-pub returns-clause-full : goal.returns-clause-full
-returns-clause-full g c =
-    let F : List Command → Type 0 = All IsFirstCommand in
-    full_of c.finished.result c.loop-number.processor.script (subst F (sym c.loop-number.invariant.script) c.requires.first) c.finished.ensures.scripts c.finished.ensures.history
-
-pub returns-clause-made : goal.returns-clause-made
-returns-clause-made g c = made_of c.finished.result c.loop-number.processor.script (g.P.Port.made c.loop-number.port) (calls_by_now c.loop-number.processor) c.loop-number.invariant.made c.finished.ensures.scripts c.finished.ensures.history c.finished.ensures.calls
+pub returns-clause-halted : goal.returns-clause-halted
+returns-clause-halted g c =
+    let i = c.loop-number.invariant in
+    let H : Boot → Type 0 = λ b. HaltedAt b c.args.script (g.P.Port.made c.loop-number.port) in
+    let T : List Command → Type 0 = λ s. HaltedAt c.loop-number.processor.boot s (g.P.Port.made c.loop-number.port) in
+    on_err c.finished.result (subst H i.boot (subst T i.script (ready-halted c.loop-number.processor c.loop-number.number (g.P.Port.made c.loop-number.port) i.ready i.made)))

@@ -11,4 +11,5 @@ invariant-loop-number g l = record {
   script : l.processor.script ≡ l.fn.script;
   told : FaultsTold (g.P.Port.faults l.fn.port) l.processor.entries (g.P.Port.faults l.port);
   faults : g.P.Port.faults l.fn.port ≤ g.P.Port.faults l.port;
+  never_fails : g.P.Port.never_fails l.fn.port → g.P.Port.never_fails l.port;
 }

@@ -1,12 +1,15 @@
 use Rattle.std.proofs.Common.{ap, Err}
-use Rattle.guest_run.proofs.PortsLemmas.{others_kept, boot_failed, kept_first}
+use Rattle.guest_run.proofs.PortsLemmas.{others_kept, boot_cut, boot_failed, kept_first}
 use Rattle.guest_run.proofs.run.boot_on_first.Goals as goal
 
 pub returns-in-Ok-clause-others : goal.returns-in-Ok-clause-others
 returns-in-Ok-clause-others g c = others_kept g.P.Port.made c.args.ports.now.items c.boot.new.port c.requires.unmade
 
 pub returns-in-Err-Module-clause-stop : goal.returns-in-Err-Module-clause-stop
-returns-in-Err-Module-clause-stop g c = boot_failed g.P.Port.made g.P.Port.faults c.args.ports.now.items c.index_mut.result.now c.boot.new.port c.args.map.now c.args.table c.args.areas c.in-Err-Module.field-0-0 c.requires.some c.requires.unmade c.index_mut.ensures.value (c.in-Err-Module.ensures.stopped c.in-Err-Module.field-0-0 (ap Err c.in-Err-Module.field-0-is)) (c.in-Err-Module.ensures.failed c.in-Err-Module.field-0-0 (ap Err c.in-Err-Module.field-0-is))
+returns-in-Err-Module-clause-stop g c = boot_failed g.P.Port.made g.P.Port.faults g.P.Port.never_fails c.args.ports.now.items c.index_mut.result.now c.boot.new.port c.args.map.now c.args.table c.args.areas c.in-Err-Module.field-0-0 c.requires.some c.requires.unmade c.index_mut.ensures.value (c.in-Err-Module.ensures.stopped c.in-Err-Module.field-0-0 (ap Err c.in-Err-Module.field-0-is)) (c.in-Err-Module.ensures.failed c.in-Err-Module.field-0-0 (ap Err c.in-Err-Module.field-0-is))
+
+pub returns-in-Err-NoMemory-clause-stop : goal.returns-in-Err-NoMemory-clause-stop
+returns-in-Err-NoMemory-clause-stop g c = boot_cut g.P.Port.made g.P.Port.faults g.P.Port.never_fails c.args.ports.now.items c.boot.new.port c.args.map.now c.args.table c.args.areas c.requires.some c.requires.unmade c.boot.ensures.front
 
 pub returns-in-Err-Module-clause-others : goal.returns-in-Err-Module-clause-others
 returns-in-Err-Module-clause-others g c = others_kept g.P.Port.made c.args.ports.now.items c.boot.new.port c.requires.unmade
@@ -15,10 +18,10 @@ pub returns-in-Err-NoMemory-clause-others : goal.returns-in-Err-NoMemory-clause-
 returns-in-Err-NoMemory-clause-others g c = others_kept g.P.Port.made c.args.ports.now.items c.boot.new.port c.requires.unmade
 
 pub returns-in-Ok-clause-kept : goal.returns-in-Ok-clause-kept
-returns-in-Ok-clause-kept g c = kept_first g.P.Port.faults c.args.ports.now.items c.index_mut.result.now c.boot.new.port c.requires.some c.index_mut.ensures.value c.boot.ensures.faults
+returns-in-Ok-clause-kept g c = kept_first g.P.Port.made g.P.Port.faults g.P.Port.never_fails c.args.ports.now.items c.index_mut.result.now c.boot.new.port c.requires.some c.index_mut.ensures.value c.boot.ensures.faults c.boot.ensures.never_fails
 
 pub returns-in-Err-Module-clause-kept : goal.returns-in-Err-Module-clause-kept
-returns-in-Err-Module-clause-kept g c = kept_first g.P.Port.faults c.args.ports.now.items c.index_mut.result.now c.boot.new.port c.requires.some c.index_mut.ensures.value c.boot.ensures.faults
+returns-in-Err-Module-clause-kept g c = kept_first g.P.Port.made g.P.Port.faults g.P.Port.never_fails c.args.ports.now.items c.index_mut.result.now c.boot.new.port c.requires.some c.index_mut.ensures.value c.boot.ensures.faults c.boot.ensures.never_fails
 
 pub returns-in-Err-NoMemory-clause-kept : goal.returns-in-Err-NoMemory-clause-kept
-returns-in-Err-NoMemory-clause-kept g c = kept_first g.P.Port.faults c.args.ports.now.items c.index_mut.result.now c.boot.new.port c.requires.some c.index_mut.ensures.value c.boot.ensures.faults
+returns-in-Err-NoMemory-clause-kept g c = kept_first g.P.Port.made g.P.Port.faults g.P.Port.never_fails c.args.ports.now.items c.index_mut.result.now c.boot.new.port c.requires.some c.index_mut.ensures.value c.boot.ensures.faults c.boot.ensures.never_fails

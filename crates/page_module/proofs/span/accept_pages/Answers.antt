@@ -1,6 +1,6 @@
 use Rattle.std.proofs.Common.{All}
 use Rattle.page_module.specs.Marking.{EndsInMemory}
-use Rattle.page_module.proofs.Tests.{map_step, map_rest}
+use Rattle.page_module.proofs.MapLemmas.{map_step, map_rest}
 use Rattle.std.proofs.lemmas.List.Elements.{All-get_or}
 use Rattle.page_module.proofs.span.accept_pages.Goals as goal
 

@@ -1,4 +1,4 @@
-use Rattle.page_module.proofs.Tests.{map_step}
+use Rattle.page_module.proofs.MapLemmas.{map_step}
 use Rattle.page_module.proofs.span.set_state.Goals as goal
 
 pub loop-taken-preserved : goal.loop-taken-preserved

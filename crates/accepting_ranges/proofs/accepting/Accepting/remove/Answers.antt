@@ -1,13 +1,28 @@
-use Rattle.std.proofs.Common.{◌≡◌, None, Some, sym, ◌∙◌, ap}
-use Rattle.accepting_ranges.specs.Claims.{range_of}
-use Rattle.accepting_ranges.proofs.ClaimLemmas.{AreApart-set, range_of-inside}
+use Rattle.std.proofs.Common.{◌≡◌, None, Some, sym, ◌∙◌, ap, subst}
+use Rattle.std.specs.Prelude.{slice_set}
+use Rattle.accepting_ranges.specs.Claims.{kept_of, MeetsNone, AreApart}
+use Rattle.accepting_ranges.proofs.ClaimLemmas.{AreApart-set, MeetsNone-taken, kept_of-inside, written-whole}
 use Rattle.accepting_ranges.proofs.accepting.Accepting.remove.Goals as goal
 
 pub invariant_of-self : goal.invariant_of-self
-invariant_of-self c =
-    let xs = c.self.inside.ranges.items in
-    let held : range_of xs c.args.cpu.0 ≡ Some c.unwrap.result =
-    ap (λ ranges. range_of ranges c.args.cpu.0) c.self.view_is ∙ sym c.range-range.ensures ∙ c.unwrap.ensures
-    in
-    AreApart-set xs _ _ c.args.cpu.0 None c.put.ensures c.as_mut_slice.ensures.value (range_of-inside xs c.args.cpu.0 c.unwrap.result held)
-    c.self.invariant (λ units e. cc)
+invariant_of-self g c =
+    let units = g.T.Claim.units in
+    let xs = c.self.inside.claims.items in
+    let cpu = c.args.cpu.0 in
+    let held : kept_of xs cpu ≡ Some c.take.result = ap (λ ys. kept_of ys cpu) (sym c.as_mut_slice.ensures.value) ∙ c.take.ensures.taken in
+    subst (AreApart units) (sym (written-whole xs _ _ cpu None c.take.ensures.rest c.as_mut_slice.ensures.value))
+    (AreApart-set units xs cpu None (kept_of-inside xs cpu c.take.result held) c.self.invariant (λ other e. cc))
+
+pub returns-clause-rest : goal.returns-clause-rest
+returns-clause-rest g c =
+    written-whole c.self.inside.claims.items _ _ c.args.cpu.0 None c.take.ensures.rest c.as_mut_slice.ensures.value
+    ∙ ap (λ xs. slice_set xs c.args.cpu.0 None) c.self.view_is
+
+pub returns-clause-apart : goal.returns-clause-apart
+returns-clause-apart g c =
+    let units = g.T.Claim.units in
+    let xs = c.self.inside.claims.items in
+    let cpu = c.args.cpu.0 in
+    let held : kept_of xs cpu ≡ Some c.take.result = ap (λ ys. kept_of ys cpu) (sym c.as_mut_slice.ensures.value) ∙ c.take.ensures.taken in
+    subst (λ ys. MeetsNone units ys (units c.take.result)) (sym (written-whole xs _ _ cpu None c.take.ensures.rest c.as_mut_slice.ensures.value))
+    (MeetsNone-taken units xs cpu c.take.result c.self.invariant held)

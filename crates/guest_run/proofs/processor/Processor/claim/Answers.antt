@@ -1,4 +1,4 @@
-use Rattle.std.proofs.Common.{Option, None, sym, ◌∙◌, ap, subst, refl}
+use Rattle.std.proofs.Common.{◌<◌, Option, None, sym, ◌∙◌, ap, subst, refl}
 use Rattle.event_core.specs.declared.entry.Turn.{Turn}
 use Rattle.event_core.specs.declared.entry.Place.TheVariants as place
 use Rattle.event_core.specs.declared.event.Event.TheVariants as event
@@ -6,18 +6,23 @@ use Rattle.event_core.specs.declared.reply.Reply.{Reply}
 use Rattle.event_core.specs.MemoryRows.{run_of_claim}
 use Rattle.event_core.specs.Units.{guarded_units}
 use Rattle.memory_core.specs.Answers.{BegunBy, IsBlocked}
-use Rattle.memory_core.specs.Steps.{Appends}
+use Rattle.memory_core.specs.Steps.{Appends, unaccepted_count}
+use Rattle.memory_core.specs.Value.{MemoryValue}
 use Rattle.memory_core.specs.declared.memory.Begin.{Begin}
 use Rattle.guest_run.specs.declared.processor.Processor.{Processor}
 use Rattle.guest_run.specs.Ready.{EndsOr, next_turn}
-use Rattle.guest_run.proofs.ReadyLemmas.{last-small, ready-room, ready-claim, never-blocked, with_entry}
+use Rattle.guest_run.proofs.ReadyLemmas.{last-small, may-begin, ready-room, ready-claim, never-blocked, with_entry}
 use Rattle.guest_run.proofs.processor.Processor.claim.Goals as goal
 
 pub take_room-requires : goal.take_room-requires
 take_room-requires c = last-small c.args.self.now c.args.number c.turn-turn.result.clock c.args.self.now.memory c.requires.ready (sym (ap (λ (t : Turn). t.clock) c.turn-turn.ensures.turn)) c.turn-turn.ensures.clock refl
 
-pub begin_accept-requires-clause-last : goal.begin_accept-requires-clause-last
-begin_accept-requires-clause-last c = last-small c.args.self.now c.args.number c.turn-turn.result.clock c.take_room.new.memory c.requires.ready (sym (ap (λ (t : Turn). t.clock) c.turn-turn.ensures.turn)) c.turn-turn.ensures.clock c.take_room.ensures.kept
+pub begin_accept-requires-clause-step : goal.begin_accept-requires-clause-step
+begin_accept-requires-clause-step c =
+    let new = c.take_room.new.memory in
+    let same = ap (λ (m : MemoryValue). unaccepted_count m.boot m.entries (guarded_units m.boot c.args.start c.args.len)) (sym c.take_room.ensures.kept) in
+    let enough = subst (λ n. n < new.room) (c.unaccepted_units-unaccepted.ensures ∙ same) c.in_ok-take_room.ensures.ok in
+    may-begin c.args.self.now c.args.number (unaccepted_count new.boot new.entries (guarded_units new.boot c.args.start c.args.len)) c.turn-turn.result new c.requires.ready c.turn-turn.ensures.turn c.turn-turn.ensures.clock c.take_room.ensures.kept enough
 
 pub span_of_claim-span-requires : goal.span_of_claim-span-requires
 span_of_claim-span-requires c blocked =

@@ -4,14 +4,14 @@ use Rattle.event_core.specs.declared.event.Event.TheVariants.{Asked}
 use Rattle.memory_core.specs.Steps.{Appends}
 use Rattle.guest_run.specs.declared.processor.Processor.{Processor}
 use Rattle.guest_run.specs.Ready.{Ready}
-use Rattle.guest_run.proofs.ReadyLemmas.{last-small, ready-room, ready-query}
+use Rattle.guest_run.proofs.ReadyLemmas.{last-small, may-begin, ready-room, ready-query}
 use Rattle.guest_run.proofs.processor.Processor.query.Goals as goal
 
 pub take_room-requires : goal.take_room-requires
 take_room-requires c = last-small c.args.self.now c.args.number c.turn-turn.result.clock c.args.self.now.memory c.requires.ready (sym (ap (λ (t : Turn). t.clock) c.turn-turn.ensures.turn)) c.turn-turn.ensures.clock refl
 
-pub query-found-requires-clause-last : goal.query-found-requires-clause-last
-query-found-requires-clause-last c = last-small c.args.self.now c.args.number c.turn-turn.result.clock c.take_room.new.memory c.requires.ready (sym (ap (λ (t : Turn). t.clock) c.turn-turn.ensures.turn)) c.turn-turn.ensures.clock c.take_room.ensures.kept
+pub query-found-requires-clause-step : goal.query-found-requires-clause-step
+query-found-requires-clause-step c = may-begin c.args.self.now c.args.number 0 c.turn-turn.result c.take_room.new.memory c.requires.ready c.turn-turn.ensures.turn c.turn-turn.ensures.clock c.take_room.ensures.kept c.in_ok-take_room.ensures.ok
 
 pub returns-clause-ready : goal.returns-clause-ready
 returns-clause-ready c =

@@ -7,10 +7,10 @@ use Rattle.page_module.specs.Spans.{Taken}
 use Rattle.memory_core.specs.Answers.{ReportedBy}
 use Rattle.memory_core.specs.Steps.{Appends, pages_of}
 use Rattle.guest_run.specs.Answered.{IsRunOf}
-use Rattle.guest_run.proofs.ReadyLemmas.{claiming-report, report-added, report-whole, report-further, calls-reported, claim-has}
+use Rattle.guest_run.proofs.ReadyLemmas.{claiming-halted, claiming-report, report-halted, report-added, report-whole, report-further, calls-reported, claim-has}
 use Rattle.guest_run.specs.declared.processor.Processor.{Processor}
 use Rattle.guest_run.specs.Replies.{FaultsTold}
-use Rattle.guest_run.proofs.FaultLemmas.{one_told, stopped_rose}
+use Rattle.guest_run.proofs.FaultLemmas.{on_err, one_told, stopped_rose}
 use Rattle.guest_run.proofs.processor.Processor.report.Goals as goal
 
 pub run_of-requires-clause-whole : goal.run_of-requires-clause-whole
@@ -72,3 +72,17 @@ returns-clause-told g c before le was =
     let rose = stopped_rose p.memory c.report.new.self c.turn-turn.result claiming.claim calls c.report.result c.after_report-next.result.1 c.in_ok-calls.end mid after c.after_report-next.ensures.reply (c.report.ensures.reported claiming.claim has) c.in_ok-calls.ensures.stop c.in_ok-calls.ensures.stopped in
     let Q : Processor → Type 0 = λ q. FaultsTold before q.entries after in
     subst Q (sym c.in_ok-add.ensures) (one_told p.entries _ before mid after le c.in_ok-calls.ensures.faults was rose)
+
+pub returns-in_err-calls-clause-halted : goal.returns-in_err-calls-clause-halted
+returns-in_err-calls-clause-halted g c = on_err c.from_residual.result
+    (λ was. claiming-halted c.args.self.now c.args.number c.args.span (g.P.Port.made c.accept_span.new.port) c.requires.claiming (c.in_err-calls.ensures.unmade ∙ was))
+
+pub returns-in_err-copy-clause-halted : goal.returns-in_err-copy-clause-halted
+returns-in_err-copy-clause-halted g c = on_err c.from_residual-in_err-copy.result
+    (λ was. report-halted c.args.self.now c.args.number c.args.span c.accept_span.new.span c.in_ok-calls.calls (g.P.Port.made c.accept_span.new.port) c.requires.claiming c.in_ok-calls.ensures.accepts
+    (c.in_ok-calls.ensures.made ∙ ap (λ l. l ++ c.in_ok-calls.calls) was))
+
+pub returns-in_err-add-clause-halted : goal.returns-in_err-add-clause-halted
+returns-in_err-add-clause-halted g c = on_err c.from_residual-in_err-add.result
+    (λ was. report-halted c.args.self.now c.args.number c.args.span c.accept_span.new.span c.in_ok-calls.calls (g.P.Port.made c.accept_span.new.port) c.requires.claiming c.in_ok-calls.ensures.accepts
+    (c.in_ok-calls.ensures.made ∙ ap (λ l. l ++ c.in_ok-calls.calls) was))

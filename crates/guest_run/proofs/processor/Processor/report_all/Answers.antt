@@ -15,6 +15,7 @@ loop-next-preserved g c =
       script = e.script ∙ i.script;
       told = λ before le was. e.told before (omega (arith, le, i.faults)) (i.told before le was);
       faults = omega (arith, i.faults, e.faults);
+      never_fails = λ n. e.never_fails (i.never_fails n);
     }
 
 pub returns-clause-told : goal.returns-clause-told

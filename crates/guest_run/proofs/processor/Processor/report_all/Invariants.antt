@@ -11,6 +11,7 @@ invariant-loop-next g l = record {
   script : l.self.script ≡ l.fn.self.script;
   told : (before : ℕ) → before ≤ g.P.Port.faults l.fn.port → FaultsTold before l.fn.self.entries (g.P.Port.faults l.fn.port) → FaultsTold before l.self.entries (g.P.Port.faults l.port);
   faults : g.P.Port.faults l.fn.port ≤ g.P.Port.faults l.port;
+  never_fails : g.P.Port.never_fails l.fn.port → g.P.Port.never_fails l.port;
 }
 
 abbrev pub decreases-loop-next : goal.decreases-loop-next

@@ -14,15 +14,16 @@ invariant_of-self c =
     let i = c.self.inside in
     let found = c.has_unaccepted-found.result in
     let turn = c.args.turn.now in
-    let last : i.last < 2 ^ 64 = (let is = c.self.invariant.0.last_is in let same = ap (λ (m : MemoryValue). last_stamp m.entries) c.self.view_is in let low = c.requires.last in omega arith) in
+    let step = c.requires.step in
+    let last : i.last < 2 ^ 64 = (let is = c.self.invariant.0.last_is in let same = ap (λ (m : MemoryValue). last_stamp m.entries) c.self.view_is in let low = step.last in omega arith) in
     let room = ap (λ (m : MemoryValue). m.room) c.self.view_is in
-    let some = c.requires.room in
+    let some = step.room in
     let kept = c.self.invariant.0.entry_room in
     let small = i.entries.small in
     let spare = c.self.invariant.1.enough in (
-      stands-more i.boot.value i.entries c.append.new.entries i.last c.append.new.last i.table i.bits i.accepting i.claims.items i.unit_pages i.kept i.room _ turn (Asked found) c.self.invariant.0
+      stands-more i.boot.value i.entries c.append.new.entries i.last c.append.new.last i.table i.bits i.accepting i.unit_pages i.kept i.room _ turn (Asked found) c.self.invariant.0
           (calls-asked i.boot.value i.entries.items turn i.last found) (claims-asked i.boot.value i.entries.items turn i.last found)
-          c.append.ensures.entries c.append.ensures.capacity c.append.ensures.last c.requires.clock last (omega arith) (omega arith) refl,
+          c.append.ensures.entries c.append.ensures.capacity c.append.ensures.last step.clock last (omega (arith, kept, small)) (omega (arith, room, some)) refl,
       record { empty = c.self.invariant.1.empty; enough = omega (arith, spare) },
     )
 

@@ -1,5 +1,5 @@
 use Rattle.std.proofs.Common.{◌≡◌, drop}
-use Rattle.page_module.specs.States.{state_in}
+use Rattle.event_core.specs.Runs.{state_in}
 use Rattle.page_module.proofs.table.PageTable.state.Given as goal
 
 abbrev pub invariant-loop-run : goal.invariant-loop-run

@@ -1,0 +1,4 @@
+pub mod ScriptLemmas
+pub mod RunnableLemmas
+pub mod InputLemmas
+pub mod RefusedLemmas
