@@ -241,37 +241,39 @@ module _ {S : Type 0} (fixed : S → Fixed) (part : S → ℕ → Part) (moved :
       All-weaker (Fits fixed part moved seats word state owner seat taken) (Fits fixed part moved seats word state owner' seat' taken)
       (λ k f. record { below = f.below; counted = f.counted; owned = moves k f; held = f.held; finds = f.finds }) ks all
 
+  -- the seats have other views, and the numbers other owners; all else stands as it was
+  new_owners : (s : State (Option S) (View S)) (kept : Keeps fixed part moved seats s) (views : List (View S)) (owner : ℕ → ℕ)
+      → ((seat : ℕ) (v : View S) → get_elem? views seat ≡ some v → All (Fits fixed part moved seats kept.0 kept.4.state owner seat v.taken) v.known)
+      → Keeps fixed part moved seats record { words = s.words; homes = s.homes; views = views }
+  new_owners s kept views owner each = (
+    kept.0,
+    kept.1,
+    kept.2,
+    kept.3,
+    record { state = kept.4.state; owner = owner; bounded = kept.4.bounded; at_home = kept.4.at_home; each = each },
+  )
+
   -- a seat takes in another's processors
   pub joins : (id : ℕ) (ks : List Known) (other : ℕ) (js : List Known) → Joins (Keeps fixed part moved seats) id (resting ks) other (resting js) (resting (ks ++ js)) (resting [])
   joins id ks other js s kept at ne at_other =
       let stands = kept.4 in
       let owner : ℕ → ℕ = joint_owner stands.owner id other in
       let there : get_elem? s.views other ≡ some (resting js) = sym (set_else s.views id other (resting (ks ++ js)) ne) ∙ at_other in
-      let F : ℕ → View S → Type 0 = λ i u. All (Fits fixed part moved seats kept.0 stands.state owner i u.taken) u.known in (
-        kept.0,
-        kept.1,
-        kept.2,
-        kept.3,
-        record {
-          state = stands.state;
-          owner = owner;
-          bounded = stands.bounded;
-          at_home = stands.at_home;
-          each = λ seat v found.
-              ⊎_elim
-              (λ t. subst (λ (u : View S). F seat u) t.1 (All-nil (Fits fixed part moved seats kept.0 stands.state owner seat None)))
-              (λ t.
-              ⊎_elim
-              (λ u.
-              subst (λ (w : View S). F seat w) u.1 (subst (λ (i : ℕ). F i (resting (ks ++ js))) (sym u.0)
-              (All-append (Fits fixed part moved seats kept.0 stands.state owner id None) ks js
-              (fits_moved kept.0 stands.state stands.owner owner id id None ks (λ k f. joint_mine stands.owner id other k.number ne f.owned) (stands.each id (resting ks) at))
-              (fits_moved kept.0 stands.state stands.owner owner other id None js (λ k f. joint_theirs stands.owner id other k.number f.owned) (stands.each other (resting js) there)))))
-              (λ u. fits_moved kept.0 stands.state stands.owner owner seat seat v.taken v.known (λ k f. joint_else stands.owner id other k.number seat t.0 f.owned) (stands.each seat v u.1))
-              (at_set s.views id seat (resting (ks ++ js)) v t.1))
-              (at_set (set s.views id (resting (ks ++ js))) other seat (resting []) v found);
-        },
-      )
+      let F : ℕ → View S → Type 0 = λ i u. All (Fits fixed part moved seats kept.0 stands.state owner i u.taken) u.known in
+      new_owners s kept _ owner
+      (λ seat v found.
+      ⊎_elim
+      (λ t. subst (λ (u : View S). F seat u) t.1 (All-nil (Fits fixed part moved seats kept.0 stands.state owner seat None)))
+      (λ t.
+      ⊎_elim
+      (λ u.
+      subst (λ (w : View S). F seat w) u.1 (subst (λ (i : ℕ). F i (resting (ks ++ js))) (sym u.0)
+      (All-append (Fits fixed part moved seats kept.0 stands.state owner id None) ks js
+      (fits_moved kept.0 stands.state stands.owner owner id id None ks (λ k f. joint_mine stands.owner id other k.number ne f.owned) (stands.each id (resting ks) at))
+      (fits_moved kept.0 stands.state stands.owner owner other id None js (λ k f. joint_theirs stands.owner id other k.number f.owned) (stands.each other (resting js) there)))))
+      (λ u. fits_moved kept.0 stands.state stands.owner owner seat seat v.taken v.known (λ k f. joint_else stands.owner id other k.number seat t.0 f.owned) (stands.each seat v u.1))
+      (at_set s.views id seat (resting (ks ++ js)) v t.1))
+      (at_set (set s.views id (resting (ks ++ js))) other seat (resting []) v found))
 
   -- the same at two seats that are at rest
   pub joins_at : (id : ℕ) (v : View S) (other : ℕ) (w : View S) (ks js : List Known) → v ≡ resting ks → w ≡ resting js → Joins (Keeps fixed part moved seats) id v other w (resting (v.known ++ w.known)) (resting [])
@@ -314,39 +316,29 @@ module _ {S : Type 0} (fixed : S → Fixed) (part : S → ℕ → Part) (moved :
       let F : ℕ → View S → Type 0 = λ i u. All (Fits fixed part moved seats kept.0 stands.state owner i u.taken) u.known in
       let P : Known → Type 0 = Fits fixed part moved seats kept.0 stands.state stands.owner id None in
       let here : All P (this ∷ ks) = stands.each id (resting (this ∷ ks)) at in
-      let first : P this = All-head P this ks here in (
-        kept.0,
-        kept.1,
-        kept.2,
-        kept.3,
-        record {
-          state = stands.state;
-          owner = owner;
-          bounded = stands.bounded;
-          at_home = stands.at_home;
-          each = λ seat v found.
-              ⊎_elim
-              (λ t.
-              ⊎_elim
-              (λ u.
-              subst (λ (w : View S). F seat w) u.1 (subst (λ (i : ℕ). F i (resting ks)) (sym u.0)
-              (both (λ (k : Known). cpu + 1 ≤ k.number) P (Fits fixed part moved seats kept.0 stands.state owner id None)
-              (λ k up f. record { below = f.below; counted = f.counted; owned = split_else stands.owner cpu (length s.views) k.number (λ e. omega arith) ∙ f.owned; held = f.held; finds = f.finds })
-              ks (above state (cpu + 1) n) (All-tail P this ks here))))
-              (λ u.
-              fits_moved kept.0 stands.state stands.owner owner seat seat v.taken v.known
-              (λ k f. split_else stands.owner cpu (length s.views) k.number (λ e. u.0 (sym f.owned ∙ (ap stands.owner e ∙ first.owned))) ∙ f.owned)
-              (stands.each seat v u.1))
-              (at_set s.views id seat (resting ks) v t))
-              (λ t.
-              let e : seat ≡ length s.views = t.0 ∙ length-set s.views id (resting ks) in
-              subst (λ (w : View S). F seat w) t.1 (subst (λ (i : ℕ). F i (resting (this ∷ []))) (sym e)
-              (All-cons (Fits fixed part moved seats kept.0 stands.state owner (length s.views) None) this []
-              record { below = first.below; counted = first.counted; owned = split_this stands.owner cpu (length s.views); held = first.held; finds = first.finds }
-              (All-nil (Fits fixed part moved seats kept.0 stands.state owner (length s.views) None)))))
-              (at_end (set s.views id (resting ks)) (resting (this ∷ [])) v seat found);
-        },
-      )
+      let first : P this = All-head P this ks here in
+      new_owners s kept _ owner
+      (λ seat v found.
+      ⊎_elim
+      (λ t.
+      ⊎_elim
+      (λ u.
+      subst (λ (w : View S). F seat w) u.1 (subst (λ (i : ℕ). F i (resting ks)) (sym u.0)
+      (both (λ (k : Known). cpu + 1 ≤ k.number) P (Fits fixed part moved seats kept.0 stands.state owner id None)
+      (λ k up f. record { below = f.below; counted = f.counted; owned = split_else stands.owner cpu (length s.views) k.number (λ e. omega arith) ∙ f.owned; held = f.held; finds = f.finds })
+      ks (above state (cpu + 1) n) (All-tail P this ks here))))
+      (λ u.
+      fits_moved kept.0 stands.state stands.owner owner seat seat v.taken v.known
+      (λ k f. split_else stands.owner cpu (length s.views) k.number (λ e. u.0 (sym f.owned ∙ (ap stands.owner e ∙ first.owned))) ∙ f.owned)
+      (stands.each seat v u.1))
+      (at_set s.views id seat (resting ks) v t))
+      (λ t.
+      let e : seat ≡ length s.views = t.0 ∙ length-set s.views id (resting ks) in
+      subst (λ (w : View S). F seat w) t.1 (subst (λ (i : ℕ). F i (resting (this ∷ []))) (sym e)
+      (All-cons (Fits fixed part moved seats kept.0 stands.state owner (length s.views) None) this []
+      record { below = first.below; counted = first.counted; owned = split_this stands.owner cpu (length s.views); held = first.held; finds = first.finds }
+      (All-nil (Fits fixed part moved seats kept.0 stands.state owner (length s.views) None)))))
+      (at_end (set s.views id (resting ks)) (resting (this ∷ [])) v seat found))
 
   -- the same at a seat that is at rest
   pub splits_at : (id : ℕ) (v : View S) (state : S) (cpu n : ℕ) → v ≡ resting (dealt fixed part seats state cpu (suc n)) → Splits (Keeps fixed part moved seats) id v (resting (others_of v.known)) (resting (first_of v.known ∷ []))
