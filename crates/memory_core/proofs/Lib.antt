@@ -13,3 +13,4 @@ pub mod CloseLemmas
 pub mod PartsLemmas
 pub mod BegunLemmas
 pub mod ReportedLemmas
+pub mod UnderLockLemmas

@@ -26,6 +26,7 @@ use crate::units::{
 };
 use accept_sizes::RunEnd;
 use accepting_ranges::Accepting;
+use claim_lock::Parted;
 use event_core::{Boot, Calls, Entries, Entry, Event, NoRoom, Turn};
 use guest_base::{CpuNo, Items, Unit, Units};
 use page_module::{PageTable, Span};
@@ -102,6 +103,16 @@ impl Model for Memory {
         StandsFor m.boot.value m.entries m.last m.table m.bits m.accepting
         m.unit_pages m.kept m.room
         × IsSpare m.spare m.room };
+}
+
+impl Parted for Memory {
+    ghost use Rattle.memory_core.specs.UnderLock.{fixed_of, part_of, moved_of};
+
+    ghost fixed = { fixed_of };
+
+    ghost part = { part_of };
+
+    ghost moved = { moved_of };
 }
 
 impl Memory {
