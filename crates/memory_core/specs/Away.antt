@@ -6,6 +6,7 @@ use Rattle.event_core.specs.declared.entry.Entry.{Entry}
 use Rattle.event_core.specs.declared.module_call.ModuleCall.{ModuleCall}
 use Rattle.event_core.specs.Calls.{calls_of}
 use Rattle.event_core.specs.Claims.{Claimed, claim_of}
+use Rattle.event_core.specs.Locally.{Rising}
 use Rattle.event_core.specs.MemoryRows.{page_state, pages_first, pages_count}
 use Rattle.page_module.specs.Spans.{Taken}
 use Rattle.accept_sizes.specs.declared.accept.RunEnd.{RunEnd}
@@ -23,6 +24,12 @@ RunsKeep boot entries =
     → claim_of boot entries cpu ≡ Some claim → entries ≡ before ++ rest → NoneOf cpu rest
     → in_range (pages_first boot claim.run) (pages_count boot claim.run) page ≡ true
     → page_state boot (calls_of boot before) page ≡ page_state boot (calls_of boot entries) page
+
+-- What a memory's entries keep: they rise, and those of other processors leave the pages of an open
+-- run.
+pub record Steady (boot : Boot) (entries : List Entry) : Type 0 where
+  pub rising : Rising entries
+  pub runs_keep : RunsKeep boot entries
 
 -- calls brought the span of an open run from the states in which the memory handed it out, and no
 -- entry since is the processor's
