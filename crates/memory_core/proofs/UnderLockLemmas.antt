@@ -1,18 +1,28 @@
 use Rattle.std.proofs.Common.{◌≡◌, ◌≢◌, ℕ, Bool, true, false, Option, None, Some, List, [], ◌∷◌, ◌++◌, refl, sym, ◌∙◌, ap, subst, arith, append-nil, append_assoc, inl, inr, cond, map}
 use Rattle.std.specs.Prelude.{All, filter, drop, length, ◌==◌}
 use Rattle.std.specs.Option.{option_map}
-use Rattle.std.proofs.lemmas.List.{map-append}
-use Rattle.std.proofs.lemmas.List.Elements.{All-nil, All-cons, All-append}
+use Rattle.std.proofs.lemmas.Bool.{cases_eq, eq-eqb, ne_eqb}
+use Rattle.std.proofs.lemmas.List.{append_cancel_left, map-append}
+use Rattle.std.proofs.lemmas.List.Elements.{All-nil, All-cons, All-head, All-tail, All-append, filter-append}
+use Rattle.guest_base.specs.declared.memory.Pages.{Pages}
 use Rattle.event_core.specs.declared.boot.Boot.{Boot}
 use Rattle.event_core.specs.declared.entry.Entry.{Entry}
 use Rattle.event_core.specs.declared.entry.Turn.{Turn}
 use Rattle.event_core.specs.declared.event.Event.{Event}
-use Rattle.event_core.specs.Claims.{Claimed, claim_of}
+use Rattle.event_core.specs.declared.module_call.ModuleCall.{ModuleCall}
+use Rattle.event_core.specs.Calls.{calls_of}
+use Rattle.event_core.specs.Claims.{Claimed, claim_of, claim_step}
 use Rattle.event_core.specs.Moved.{Moved, made_by}
 use Rattle.event_core.specs.Parted.{Fixed, Part}
-use Rattle.claim_lock.specs.Knows.{MayGive, IsOf}
+use Rattle.event_core.proofs.RisingLemmas.{filter-at}
+use Rattle.event_core.proofs.StandingLemmas.{claim_of-push}
+use Rattle.page_module.specs.Spans.{Taken}
+use Rattle.accept_sizes.specs.declared.accept.RunEnd.{RunEnd}
+use Rattle.claim_lock.specs.Knows.{Finds, MayGive, IsOf, left_known}
+use Rattle.claim_lock.specs.declared.known.Known.{Known}
 use Rattle.memory_core.specs.Answers.{OthersKeep}
-use Rattle.memory_core.specs.Steps.{Appends, bare_entry, last_stamp}
+use Rattle.memory_core.specs.Away.{NoneOf, BringsSince, FoundAgain}
+use Rattle.memory_core.specs.Steps.{Appends, BringsTo, bare_entry, last_stamp}
 use Rattle.memory_core.specs.UnderLock.{fixed_of, part_of, moved_of, unmoved, claim_part, pages_out, room_kept}
 use Rattle.memory_core.specs.Value.{MemoryValue, Handed, handed_to}
 use Rattle.memory_core.proofs.StepLemmas.{claim-other}
@@ -74,4 +84,106 @@ may-give-both cpu a b c first then = record {
     then.only_added.1 ∙ ap (λ ms. ms ++ then.only_added.0) first.only_added.1 ∙ append_assoc (moved_of a) first.only_added.0 then.only_added.0,
     All-append (IsOf cpu) first.only_added.0 then.only_added.0 first.only_added.2 then.only_added.2,
   );
+}
+
+-- ---- what a processor finds when it takes the lock again
+
+-- what the memory has of a processor is what the processor made, when it gives the lock back
+pub own-kept : (known : Known) (taken left : MemoryValue) → Finds fixed_of part_of moved_of known taken → MayGiveBack known.number taken left
+    → made_by known.number (moved_of left) ≡ (left_known part_of moved_of known taken left).own
+own-kept known taken left finds gives =
+    let new = gives.only_added.0 in
+    ap (made_by known.number) gives.only_added.1
+    ∙ filter-append (λ (m : Moved). m.entry.cpu.0 == known.number) (moved_of taken) new
+    ∙ ap (λ ms. ms ++ made_by known.number new) finds.own_alone
+    ∙ ap (λ ms. known.own ++ ms) (all-his known.number new gives.only_added.2 ∙ sym (ap (drop (length (moved_of taken))) gives.only_added.1 ∙ behind (moved_of taken) new))
+  where
+    all-his : (cpu : ℕ) (ms : List Moved) → All (IsOf cpu) ms → made_by cpu ms ≡ ms
+    all-his cpu [] all = refl
+    all-his cpu (m ∷ ms) all =
+        filter-at (λ (x : Moved). x.entry.cpu.0 == cpu) m ms true (eq-eqb m.entry.cpu.0 cpu (All-head (IsOf cpu) m ms all)) ∙ ap (λ xs. m ∷ xs) (all-his cpu ms (All-tail (IsOf cpu) m ms all))
+
+    behind : (xs ys : List Moved) → drop (length xs) (xs ++ ys) ≡ ys
+    behind [] ys = refl
+    behind (x ∷ xs) ys = behind xs ys
+
+-- the entries that were added, without their bytes
+added-entries : (all first : List Entry) (rest : List Moved) → map unmoved all ≡ map unmoved first ++ rest → (es : List Entry) × (all ≡ first ++ es) × (rest ≡ map unmoved es)
+added-entries all [] rest is = (all, refl, sym is)
+added-entries [] (e ∷ first) rest is = cc
+added-entries (x ∷ all) (e ∷ first) rest is =
+    let head : unmoved x ≡ unmoved e = cc in
+    let tail : map unmoved all ≡ map unmoved first ++ rest = cc in
+    let found = added-entries all first rest tail in
+    (found.0, ap (λ (m : Moved). m.entry ∷ all) head ∙ ap (λ es. e ∷ es) found.1, found.2)
+
+-- where a processor has no more of the entries, the added ones are others'
+none-made : (cpu : ℕ) (first : List Moved) (es : List Entry) → made_by cpu (first ++ map unmoved es) ≡ made_by cpu first → NoneOf cpu es
+none-made cpu first es same =
+    none es (append_cancel_left (made_by cpu first) (made_by cpu (map unmoved es)) [] (sym (filter-append (λ (m : Moved). m.entry.cpu.0 == cpu) first (map unmoved es)) ∙ same ∙ sym (append-nil (made_by cpu first))))
+  where
+    none : (xs : List Entry) → made_by cpu (map unmoved xs) ≡ [] → NoneOf cpu xs
+    none [] is = All-nil (λ (e : Entry). e.cpu.0 ≢ cpu)
+    none (x ∷ xs) is = elim (cases_eq x.cpu.0 cpu) [
+      | inl mine ↦
+          (let bad : unmoved x ∷ made_by cpu (map unmoved xs) ≡ [] = sym (filter-at (λ (m : Moved). m.entry.cpu.0 == cpu) (unmoved x) (map unmoved xs) true (eq-eqb x.cpu.0 cpu mine)) ∙ is in cc)
+      | inr other ↦
+          All-cons (λ (e : Entry). e.cpu.0 ≢ cpu) x xs other
+          (none xs (sym (filter-at (λ (m : Moved). m.entry.cpu.0 == cpu) (unmoved x) (map unmoved xs) false (ne_eqb x.cpu.0 cpu other)) ∙ is))
+    ]
+
+-- other processors' entries leave a processor's claim
+claim-stays : (boot : Boot) (cpu : ℕ) (before rest : List Entry) → NoneOf cpu rest → claim_of boot (before ++ rest) cpu ≡ claim_of boot before cpu
+claim-stays boot cpu before [] none = ap (λ es. claim_of boot es cpu) (append-nil before)
+claim-stays boot cpu before (e ∷ es) none =
+    let other = All-head (λ (x : Entry). x.cpu.0 ≢ cpu) e es none in
+    ap (λ xs. claim_of boot xs cpu) (sym (append_assoc before (e ∷ []) es))
+    ∙ claim-stays boot cpu (before ++ e ∷ []) es (All-tail (λ (x : Entry). x.cpu.0 ≢ cpu) e es none)
+    ∙ claim_of-push boot before e cpu
+    ∙ ap (λ b. cond b (claim_step boot (calls_of boot before) (claim_of boot before cpu) e.event) (claim_of boot before cpu)) (ne_eqb e.cpu.0 cpu other)
+
+-- what is out for a claim is told by its part
+handed-back : (a b : Option Handed) → pages_out a ≡ pages_out b → room_kept a ≡ room_kept b → a ≡ b
+handed-back None None pages room = refl
+handed-back None (Some b) pages room = cc
+handed-back (Some a) None pages room = cc
+handed-back (Some a) (Some b) pages room =
+    let p : a.ticket.pages ≡ b.ticket.pages = cc in
+    let n : a.room ≡ b.room = cc in
+    let r : a.ticket.runs ≡ b.ticket.runs = cc in
+    let m : a.ticket.room ≡ b.ticket.room = cc in
+    ap (λ x. made x a.ticket.runs a.ticket.room a.room) p ∙ ap (λ x. made b.ticket.pages x a.ticket.room a.room) r ∙ ap (λ x. made b.ticket.pages b.ticket.runs x a.room) m ∙ ap (λ x. made b.ticket.pages b.ticket.runs b.ticket.room x) n
+  where
+    made : Pages → ℕ → ℕ → ℕ → Option Handed
+    made pages runs room units = Some (record { ticket = record { pages = pages; runs = runs; room = room }; room = units })
+
+-- A processor finds the memory as it left it but for the entries of others, where it knows the memory as it left it and has made
+-- just its entries in it.
+pub found-again : (known : Known) (left found : MemoryValue) → known.fixed ≡ fixed_of left → known.part ≡ part_of left known.number → known.seen ≡ moved_of left → known.own ≡ made_by known.number (moved_of left)
+    → Finds fixed_of part_of moved_of known found → FoundAgain known.number left found
+found-again known left found is_fixed is_part is_seen is_own finds =
+    let cpu = known.number in
+    let boots : Some found.boot ≡ Some left.boot = ap (λ (f : Fixed). f.boot) (finds.as_given ∙ is_fixed) in
+    let boot : found.boot ≡ left.boot = cc in
+    let rest = added-entries found.entries left.entries finds.longer.0 (finds.longer.1 ∙ ap (λ ms. ms ++ finds.longer.0) is_seen) in
+    let others = none-made cpu (moved_of left) rest.0 (sym (ap (λ es. made_by cpu (map unmoved es)) rest.1 ∙ ap (made_by cpu) (map-append unmoved left.entries rest.0)) ∙ finds.own_alone ∙ is_own) in
+    let part : part_of found cpu ≡ part_of left cpu = finds.as_left ∙ is_part in
+    record {
+      boot = boot;
+      rest = rest.0;
+      longer = rest.1;
+      others = others;
+      claim = ap (λ b. claim_of b found.entries cpu) boot ∙ ap (λ es. claim_of left.boot es cpu) rest.1 ∙ claim-stays left.boot cpu left.entries rest.0 others;
+      handed = handed-back (handed_to found cpu) (handed_to left cpu) (ap (λ (p : Part). p.out) part) (ap (λ (p : Part). p.room) part);
+    }
+
+-- So it may report: the pages that are out for it have the states in which it got them, whatever others did meanwhile.
+pub may-report : (cpu : ℕ) (left found : MemoryValue) (claim : Claimed) (span : Taken) (calls : List ModuleCall) (end : RunEnd) → FoundAgain cpu left found
+    → BringsSince left cpu claim span calls end → BringsSince found cpu claim span calls end
+may-report cpu left found claim span calls end f b = record {
+  before = b.before;
+  rest = b.rest ++ f.rest;
+  split = f.longer ∙ ap (λ es. es ++ f.rest) b.split ∙ append_assoc b.before b.rest f.rest;
+  others = All-append (λ (e : Entry). e.cpu.0 ≢ cpu) b.rest f.rest b.others f.others;
+  brings = subst (λ boot. BringsTo boot (calls_of boot b.before) claim.run span calls end) (sym f.boot) b.brings;
 }

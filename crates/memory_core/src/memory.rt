@@ -13,9 +13,10 @@ ghost use Rattle.event_core.specs.Claims.{Claimed, claim_of};
 ghost use Rattle.event_core.specs.MemoryRows.{page_state, report_event, some_unaccepted};
 ghost use Rattle.event_core.specs.Units.{bit_after, first_run, guarded_units, unit_pages};
 ghost use Rattle.page_module.specs.States.{state_in};
+ghost use Rattle.memory_core.specs.Away.{BringsSince};
 ghost use Rattle.memory_core.specs.Bitmaps.{BitsAfter};
 ghost use Rattle.memory_core.specs.Value.{handed_to};
-ghost use Rattle.memory_core.specs.Steps.{last_stamp, unaccepted_count, claim_of_units, Appends, BringsTo, IsByteRange, MayBegin};
+ghost use Rattle.memory_core.specs.Steps.{last_stamp, unaccepted_count, claim_of_units, Appends, IsByteRange, MayBegin};
 
 use crate::claims::{OpenClaim, next_run_of, with_next};
 use crate::entries::append;
@@ -286,7 +287,8 @@ impl Memory {
     }
 
     /// Reports the open run of the turn's processor: its pages, which come back in the span that is out for it, were brought to
-    /// their states by `calls`, with this end. The bits of the units without a pending page become clear.
+    /// their states by `calls`, with this end, from those in which they were handed out. What other processors did meanwhile
+    /// doesn't matter. The bits of the units without a pending page become clear.
     ///
     /// `Next` has the pages of the claim's next run. Where none is left, or the acceptance stopped, the claim closes: `Stopped`
     /// comes exactly where `end` is `Stopped`. The room that a report needs was taken with the claim.
@@ -294,8 +296,7 @@ impl Memory {
         requires out { IfSome (handed_to self.old turn.old.cpu.0) (λ h. h.ticket ≡ span.ticket) }
         requires brings { (claim : Claimed)
             × (claim_of self.old.boot self.old.entries turn.old.cpu.0 ≡ Some claim)
-            × BringsTo self.old.boot (calls_of self.old.boot self.old.entries)
-            claim.run span calls end }
+            × BringsSince self.old turn.old.cpu.0 claim span calls end }
         requires clock { turn.old.clock ≤ max (2 ^ 64) (last_stamp self.old.entries) }
         ensures reported { (claim : Claimed)
             → claim_of self.old.boot self.old.entries turn.old.cpu.0 ≡ Some claim

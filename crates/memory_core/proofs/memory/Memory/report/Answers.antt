@@ -49,7 +49,7 @@ run_pages-requires-clause-some c =
     let i = c.self.inside in
     let s = c.self.invariant.0 in
     let r = reports-of i.boot.value i.entries.items i.accepting i.room c.args.self.now c.args.calls i.table c.put.new.self i.bits c.clear_run.new.bits c.args.turn.now.cpu.0 c.remove-claim.result c.requires.brings.0 c.args.span c.args.end c.clear_run.result c.self.view_is s.holds s.same_bits s.booted.some
-    c.requires.brings.1 c.remove-claim.ensures.taken c.requires.out c.requires.brings.2 c.clear_run.ensures.cleared c.put.ensures.states c.put.ensures.out in
+    c.requires.brings.1 c.remove-claim.ensures.taken c.requires.out s.steady.runs_keep c.requires.brings.2 c.clear_run.ensures.cleared c.put.ensures.states c.put.ensures.out in
     let n = next-opens i.boot.value i.entries.items c.args.calls i.table c.put.new.self i.bits c.clear_run.new.bits i.accepting c.args.turn.now.cpu.0 c.remove-claim.result c.requires.brings.0 c.args.span c.args.end c.clear_run.result r c.next_run_of-next.result c.in-Some.run' c.next_run_of-next.ensures c.in-Some.is in
     n.some
 
@@ -58,7 +58,7 @@ run_pages-requires-clause-set c =
     let i = c.self.inside in
     let s = c.self.invariant.0 in
     let r = reports-of i.boot.value i.entries.items i.accepting i.room c.args.self.now c.args.calls i.table c.put.new.self i.bits c.clear_run.new.bits c.args.turn.now.cpu.0 c.remove-claim.result c.requires.brings.0 c.args.span c.args.end c.clear_run.result c.self.view_is s.holds s.same_bits s.booted.some
-    c.requires.brings.1 c.remove-claim.ensures.taken c.requires.out c.requires.brings.2 c.clear_run.ensures.cleared c.put.ensures.states c.put.ensures.out in
+    c.requires.brings.1 c.remove-claim.ensures.taken c.requires.out s.steady.runs_keep c.requires.brings.2 c.clear_run.ensures.cleared c.put.ensures.states c.put.ensures.out in
     let n = next-opens i.boot.value i.entries.items c.args.calls i.table c.put.new.self i.bits c.clear_run.new.bits i.accepting c.args.turn.now.cpu.0 c.remove-claim.result c.requires.brings.0 c.args.span c.args.end c.clear_run.result r c.next_run_of-next.result c.in-Some.run' c.next_run_of-next.ensures c.in-Some.is in
     n.set
 
@@ -67,7 +67,7 @@ take-span-requires-clause-here c page inside none =
     let i = c.self.inside in
     let s = c.self.invariant.0 in
     let r = reports-of i.boot.value i.entries.items i.accepting i.room c.args.self.now c.args.calls i.table c.put.new.self i.bits c.clear_run.new.bits c.args.turn.now.cpu.0 c.remove-claim.result c.requires.brings.0 c.args.span c.args.end c.clear_run.result c.self.view_is s.holds s.same_bits s.booted.some
-    c.requires.brings.1 c.remove-claim.ensures.taken c.requires.out c.requires.brings.2 c.clear_run.ensures.cleared c.put.ensures.states c.put.ensures.out in
+    c.requires.brings.1 c.remove-claim.ensures.taken c.requires.out s.steady.runs_keep c.requires.brings.2 c.clear_run.ensures.cleared c.put.ensures.states c.put.ensures.out in
     let n = next-opens i.boot.value i.entries.items c.args.calls i.table c.put.new.self i.bits c.clear_run.new.bits i.accepting c.args.turn.now.cpu.0 c.remove-claim.result c.requires.brings.0 c.args.span c.args.end c.clear_run.result r c.next_run_of-next.result c.in-Some.run' c.next_run_of-next.ensures c.in-Some.is in
     let pages = run-pages-are i.boot.value c.clear_run.new.bits c.in-Some.run' c.run_pages.result (cleared-same i.boot.value i.bits c.clear_run.new.bits (pending_of c.args.span) c.requires.brings.0.run c.clear_run.result s.same_bits r.clears) c.run_pages.ensures in
     let at : in_range (pages_first i.boot.value c.in-Some.run') (pages_count i.boot.value c.in-Some.run') page ≡ true = sym (ap (λ (p : Pages). in_range p.first p.count page) pages) ∙ inside in
@@ -78,7 +78,7 @@ take-span-requires-clause-room c =
     let i = c.self.inside in
     let s = c.self.invariant.0 in
     let r = reports-of i.boot.value i.entries.items i.accepting i.room c.args.self.now c.args.calls i.table c.put.new.self i.bits c.clear_run.new.bits c.args.turn.now.cpu.0 c.remove-claim.result c.requires.brings.0 c.args.span c.args.end c.clear_run.result c.self.view_is s.holds s.same_bits s.booted.some
-    c.requires.brings.1 c.remove-claim.ensures.taken c.requires.out c.requires.brings.2 c.clear_run.ensures.cleared c.put.ensures.states c.put.ensures.out in
+    c.requires.brings.1 c.remove-claim.ensures.taken c.requires.out s.steady.runs_keep c.requires.brings.2 c.clear_run.ensures.cleared c.put.ensures.states c.put.ensures.out in
     let n = next-opens i.boot.value i.entries.items c.args.calls i.table c.put.new.self i.bits c.clear_run.new.bits i.accepting c.args.turn.now.cpu.0 c.remove-claim.result c.requires.brings.0 c.args.span c.args.end c.clear_run.result r c.next_run_of-next.result c.in-Some.run' c.next_run_of-next.ensures c.in-Some.is in
     let pages = run-pages-are i.boot.value c.clear_run.new.bits c.in-Some.run' c.run_pages.result (cleared-same i.boot.value i.bits c.clear_run.new.bits (pending_of c.args.span) c.requires.brings.0.run c.clear_run.result s.same_bits r.clears) c.run_pages.ensures in
     let o = c.remove-claim.result in
@@ -92,7 +92,7 @@ with_next-claim-requires-clause-room c =
     let i = c.self.inside in
     let s = c.self.invariant.0 in
     let r = reports-of i.boot.value i.entries.items i.accepting i.room c.args.self.now c.args.calls i.table c.put.new.self i.bits c.clear_run.new.bits c.args.turn.now.cpu.0 c.remove-claim.result c.requires.brings.0 c.args.span c.args.end c.clear_run.result c.self.view_is s.holds s.same_bits s.booted.some
-    c.requires.brings.1 c.remove-claim.ensures.taken c.requires.out c.requires.brings.2 c.clear_run.ensures.cleared c.put.ensures.states c.put.ensures.out in
+    c.requires.brings.1 c.remove-claim.ensures.taken c.requires.out s.steady.runs_keep c.requires.brings.2 c.clear_run.ensures.cleared c.put.ensures.states c.put.ensures.out in
     let n = next-opens i.boot.value i.entries.items c.args.calls i.table c.put.new.self i.bits c.clear_run.new.bits i.accepting c.args.turn.now.cpu.0 c.remove-claim.result c.requires.brings.0 c.args.span c.args.end c.clear_run.result r c.next_run_of-next.result c.in-Some.run' c.next_run_of-next.ensures c.in-Some.is in
     n.fits
 
@@ -101,7 +101,7 @@ overflow_sub-self c =
     let i = c.self.inside in
     let s = c.self.invariant.0 in
     let r = reports-of i.boot.value i.entries.items i.accepting i.room c.args.self.now c.args.calls i.table c.put.new.self i.bits c.clear_run.new.bits c.args.turn.now.cpu.0 c.remove-claim.result c.requires.brings.0 c.args.span c.args.end c.clear_run.result c.self.view_is s.holds s.same_bits s.booted.some
-    c.requires.brings.1 c.remove-claim.ensures.taken c.requires.out c.requires.brings.2 c.clear_run.ensures.cleared c.put.ensures.states c.put.ensures.out in
+    c.requires.brings.1 c.remove-claim.ensures.taken c.requires.out s.steady.runs_keep c.requires.brings.2 c.clear_run.ensures.cleared c.put.ensures.states c.put.ensures.out in
     let n = next-opens i.boot.value i.entries.items c.args.calls i.table c.put.new.self i.bits c.clear_run.new.bits i.accepting c.args.turn.now.cpu.0 c.remove-claim.result c.requires.brings.0 c.args.span c.args.end c.clear_run.result r c.next_run_of-next.result c.in-Some.run' c.next_run_of-next.ensures c.in-Some.is in
     let covers = kept-covers i.accepting c.args.turn.now.cpu.0 i.kept c.remove-claim.result s.reports c.remove-claim.ensures.taken in
     omega (arith, n.fits, covers)
@@ -125,7 +125,7 @@ invariant_of-self c =
     let i = c.self.inside in
     let s = c.self.invariant.0 in
     let r = reports-of i.boot.value i.entries.items i.accepting i.room c.args.self.now c.args.calls i.table c.put.new.self i.bits c.clear_run.new.bits c.args.turn.now.cpu.0 c.remove-claim.result c.requires.brings.0 c.args.span c.args.end c.clear_run.result c.self.view_is s.holds s.same_bits s.booted.some
-    c.requires.brings.1 c.remove-claim.ensures.taken c.requires.out c.requires.brings.2 c.clear_run.ensures.cleared c.put.ensures.states c.put.ensures.out in
+    c.requires.brings.1 c.remove-claim.ensures.taken c.requires.out s.steady.runs_keep c.requires.brings.2 c.clear_run.ensures.cleared c.put.ensures.states c.put.ensures.out in
     let n = next-opens i.boot.value i.entries.items c.args.calls i.table c.put.new.self i.bits c.clear_run.new.bits i.accepting c.args.turn.now.cpu.0 c.remove-claim.result c.requires.brings.0 c.args.span c.args.end c.clear_run.result r c.next_run_of-next.result c.in-Some.run' c.next_run_of-next.ensures c.in-Some.is in
     let entries = entries-are i.boot.value i.entries.items c.args.calls i.table c.put.new.self i.bits c.clear_run.new.bits i.accepting c.args.turn.now.cpu.0 c.remove-claim.result c.requires.brings.0 c.args.span c.args.end c.clear_run.result r c.append.new.entries.items c.args.turn.now i.last c.stopped_page.result c.next_run_of-next.result c.stopped_page.ensures c.next_run_of-next.ensures c.append.ensures.entries in
     let pages = run-pages-are i.boot.value c.clear_run.new.bits c.in-Some.run' c.run_pages.result (cleared-same i.boot.value i.bits c.clear_run.new.bits (pending_of c.args.span) c.requires.brings.0.run c.clear_run.result s.same_bits r.clears) c.run_pages.ensures in
@@ -148,7 +148,7 @@ invariant_of-self-in-None-1 c =
     let i = c.self.inside in
     let s = c.self.invariant.0 in
     let r = reports-of i.boot.value i.entries.items i.accepting i.room c.args.self.now c.args.calls i.table c.put.new.self i.bits c.clear_run.new.bits c.args.turn.now.cpu.0 c.remove-claim.result c.requires.brings.0 c.args.span c.args.end c.clear_run.result c.self.view_is s.holds s.same_bits s.booted.some
-    c.requires.brings.1 c.remove-claim.ensures.taken c.requires.out c.requires.brings.2 c.clear_run.ensures.cleared c.put.ensures.states c.put.ensures.out in
+    c.requires.brings.1 c.remove-claim.ensures.taken c.requires.out s.steady.runs_keep c.requires.brings.2 c.clear_run.ensures.cleared c.put.ensures.states c.put.ensures.out in
     let entries = entries-are i.boot.value i.entries.items c.args.calls i.table c.put.new.self i.bits c.clear_run.new.bits i.accepting c.args.turn.now.cpu.0 c.remove-claim.result c.requires.brings.0 c.args.span c.args.end c.clear_run.result r c.append.new.entries.items c.args.turn.now i.last c.stopped_page.result c.next_run_of-next.result c.stopped_page.ensures c.next_run_of-next.ensures c.append.ensures.entries in
     let next : next_run i.boot.value c.requires.brings.0 (stop_of c.args.calls) ≡ None = sym (c.next_run_of-next.ensures ∙ next-found i.boot.value i.entries.items c.args.calls i.table c.put.new.self i.bits c.clear_run.new.bits i.accepting c.args.turn.now.cpu.0 c.remove-claim.result c.requires.brings.0 c.args.span c.args.end c.clear_run.result r) ∙ c.in-None.is in
     let clock = clock-kept i.boot.value i.entries.items i.accepting i.room c.args.turn.now.clock i.last c.args.self.now c.self.view_is s.last_is c.requires.clock in (
@@ -162,7 +162,7 @@ returns-in-Some-clause-reported c claim' has =
     let i = c.self.inside in
     let s = c.self.invariant.0 in
     let r = reports-of i.boot.value i.entries.items i.accepting i.room c.args.self.now c.args.calls i.table c.put.new.self i.bits c.clear_run.new.bits c.args.turn.now.cpu.0 c.remove-claim.result c.requires.brings.0 c.args.span c.args.end c.clear_run.result c.self.view_is s.holds s.same_bits s.booted.some
-    c.requires.brings.1 c.remove-claim.ensures.taken c.requires.out c.requires.brings.2 c.clear_run.ensures.cleared c.put.ensures.states c.put.ensures.out in
+    c.requires.brings.1 c.remove-claim.ensures.taken c.requires.out s.steady.runs_keep c.requires.brings.2 c.clear_run.ensures.cleared c.put.ensures.states c.put.ensures.out in
     let n = next-opens i.boot.value i.entries.items c.args.calls i.table c.put.new.self i.bits c.clear_run.new.bits i.accepting c.args.turn.now.cpu.0 c.remove-claim.result c.requires.brings.0 c.args.span c.args.end c.clear_run.result r c.next_run_of-next.result c.in-Some.run' c.next_run_of-next.ensures c.in-Some.is in
     let entries = entries-are i.boot.value i.entries.items c.args.calls i.table c.put.new.self i.bits c.clear_run.new.bits i.accepting c.args.turn.now.cpu.0 c.remove-claim.result c.requires.brings.0 c.args.span c.args.end c.clear_run.result r c.append.new.entries.items c.args.turn.now i.last c.stopped_page.result c.next_run_of-next.result c.stopped_page.ensures c.next_run_of-next.ensures c.append.ensures.entries in
     let pages = run-pages-are i.boot.value c.clear_run.new.bits c.in-Some.run' c.run_pages.result (cleared-same i.boot.value i.bits c.clear_run.new.bits (pending_of c.args.span) c.requires.brings.0.run c.clear_run.result s.same_bits r.clears) c.run_pages.ensures in
@@ -185,7 +185,7 @@ returns-in-Some-clause-appends c claim' has =
     let i = c.self.inside in
     let s = c.self.invariant.0 in
     let r = reports-of i.boot.value i.entries.items i.accepting i.room c.args.self.now c.args.calls i.table c.put.new.self i.bits c.clear_run.new.bits c.args.turn.now.cpu.0 c.remove-claim.result c.requires.brings.0 c.args.span c.args.end c.clear_run.result c.self.view_is s.holds s.same_bits s.booted.some
-    c.requires.brings.1 c.remove-claim.ensures.taken c.requires.out c.requires.brings.2 c.clear_run.ensures.cleared c.put.ensures.states c.put.ensures.out in
+    c.requires.brings.1 c.remove-claim.ensures.taken c.requires.out s.steady.runs_keep c.requires.brings.2 c.clear_run.ensures.cleared c.put.ensures.states c.put.ensures.out in
     let entries = entries-are i.boot.value i.entries.items c.args.calls i.table c.put.new.self i.bits c.clear_run.new.bits i.accepting c.args.turn.now.cpu.0 c.remove-claim.result c.requires.brings.0 c.args.span c.args.end c.clear_run.result r c.append.new.entries.items c.args.turn.now i.last c.stopped_page.result c.next_run_of-next.result c.stopped_page.ensures c.next_run_of-next.ensures c.append.ensures.entries in
     appends-reported i.boot.value i.entries.items i.accepting i.room c.args.self.now (seen i.boot.value c.append.new.entries.items c.add.new.self 0) c.args.turn.now c.append.new.turn i.last c.requires.brings.0 claim' c.args.calls c.self.view_is c.requires.brings.1 has refl entries s.last_is c.append.ensures.turn
 
@@ -194,7 +194,7 @@ returns-in-Some-clause-others c =
     let i = c.self.inside in
     let s = c.self.invariant.0 in
     let r = reports-of i.boot.value i.entries.items i.accepting i.room c.args.self.now c.args.calls i.table c.put.new.self i.bits c.clear_run.new.bits c.args.turn.now.cpu.0 c.remove-claim.result c.requires.brings.0 c.args.span c.args.end c.clear_run.result c.self.view_is s.holds s.same_bits s.booted.some
-    c.requires.brings.1 c.remove-claim.ensures.taken c.requires.out c.requires.brings.2 c.clear_run.ensures.cleared c.put.ensures.states c.put.ensures.out in
+    c.requires.brings.1 c.remove-claim.ensures.taken c.requires.out s.steady.runs_keep c.requires.brings.2 c.clear_run.ensures.cleared c.put.ensures.states c.put.ensures.out in
     let entries = entries-are i.boot.value i.entries.items c.args.calls i.table c.put.new.self i.bits c.clear_run.new.bits i.accepting c.args.turn.now.cpu.0 c.remove-claim.result c.requires.brings.0 c.args.span c.args.end c.clear_run.result r c.append.new.entries.items c.args.turn.now i.last c.stopped_page.result c.next_run_of-next.result c.stopped_page.ensures c.next_run_of-next.ensures c.append.ensures.entries in
     let made : OpenClaim = record c.remove-claim.result { run = c.in-Some.run'; opened = c.remove-claim.result.opened + 1; cleared = c.remove-claim.result.cleared + c.clear_run.result; ticket = c.take-span.result.ticket; room = c.remove-claim.result.room - c.in-Some.run'.count } in
     let set = kept-next i.accepting c.remove-claim.new.self c.add.new.self c.args.turn.now.cpu.0 c.append.new.turn.cpu.0 c.with_next-claim.result made c.remove-claim.ensures.rest c.add.ensures (ap (λ (t : Turn). t.cpu.0) c.append.ensures.turn)
@@ -208,7 +208,7 @@ returns-in-None-clause-reported c claim' has =
     let i = c.self.inside in
     let s = c.self.invariant.0 in
     let r = reports-of i.boot.value i.entries.items i.accepting i.room c.args.self.now c.args.calls i.table c.put.new.self i.bits c.clear_run.new.bits c.args.turn.now.cpu.0 c.remove-claim.result c.requires.brings.0 c.args.span c.args.end c.clear_run.result c.self.view_is s.holds s.same_bits s.booted.some
-    c.requires.brings.1 c.remove-claim.ensures.taken c.requires.out c.requires.brings.2 c.clear_run.ensures.cleared c.put.ensures.states c.put.ensures.out in
+    c.requires.brings.1 c.remove-claim.ensures.taken c.requires.out s.steady.runs_keep c.requires.brings.2 c.clear_run.ensures.cleared c.put.ensures.states c.put.ensures.out in
     let next : next_run i.boot.value c.requires.brings.0 (stop_of c.args.calls) ≡ None = sym (c.next_run_of-next.ensures ∙ next-found i.boot.value i.entries.items c.args.calls i.table c.put.new.self i.bits c.clear_run.new.bits i.accepting c.args.turn.now.cpu.0 c.remove-claim.result c.requires.brings.0 c.args.span c.args.end c.clear_run.result r) ∙ c.in-None.is in
     let same = same-claim (claim_of c.args.self.now.boot c.args.self.now.entries c.args.turn.now.cpu.0) c.requires.brings.0 claim' c.requires.brings.1 has in
     let new = seen i.boot.value c.append.new.entries.items c.remove-claim.new.self i.room in
@@ -228,7 +228,7 @@ returns-in-None-clause-appends c claim' has =
     let i = c.self.inside in
     let s = c.self.invariant.0 in
     let r = reports-of i.boot.value i.entries.items i.accepting i.room c.args.self.now c.args.calls i.table c.put.new.self i.bits c.clear_run.new.bits c.args.turn.now.cpu.0 c.remove-claim.result c.requires.brings.0 c.args.span c.args.end c.clear_run.result c.self.view_is s.holds s.same_bits s.booted.some
-    c.requires.brings.1 c.remove-claim.ensures.taken c.requires.out c.requires.brings.2 c.clear_run.ensures.cleared c.put.ensures.states c.put.ensures.out in
+    c.requires.brings.1 c.remove-claim.ensures.taken c.requires.out s.steady.runs_keep c.requires.brings.2 c.clear_run.ensures.cleared c.put.ensures.states c.put.ensures.out in
     let entries = entries-are i.boot.value i.entries.items c.args.calls i.table c.put.new.self i.bits c.clear_run.new.bits i.accepting c.args.turn.now.cpu.0 c.remove-claim.result c.requires.brings.0 c.args.span c.args.end c.clear_run.result r c.append.new.entries.items c.args.turn.now i.last c.stopped_page.result c.next_run_of-next.result c.stopped_page.ensures c.next_run_of-next.ensures c.append.ensures.entries in
     appends-reported i.boot.value i.entries.items i.accepting i.room c.args.self.now (seen i.boot.value c.append.new.entries.items c.remove-claim.new.self i.room) c.args.turn.now c.append.new.turn i.last c.requires.brings.0 claim' c.args.calls c.self.view_is c.requires.brings.1 has refl entries s.last_is c.append.ensures.turn
 
@@ -237,7 +237,7 @@ returns-in-None-clause-others c =
     let i = c.self.inside in
     let s = c.self.invariant.0 in
     let r = reports-of i.boot.value i.entries.items i.accepting i.room c.args.self.now c.args.calls i.table c.put.new.self i.bits c.clear_run.new.bits c.args.turn.now.cpu.0 c.remove-claim.result c.requires.brings.0 c.args.span c.args.end c.clear_run.result c.self.view_is s.holds s.same_bits s.booted.some
-    c.requires.brings.1 c.remove-claim.ensures.taken c.requires.out c.requires.brings.2 c.clear_run.ensures.cleared c.put.ensures.states c.put.ensures.out in
+    c.requires.brings.1 c.remove-claim.ensures.taken c.requires.out s.steady.runs_keep c.requires.brings.2 c.clear_run.ensures.cleared c.put.ensures.states c.put.ensures.out in
     let entries = entries-are i.boot.value i.entries.items c.args.calls i.table c.put.new.self i.bits c.clear_run.new.bits i.accepting c.args.turn.now.cpu.0 c.remove-claim.result c.requires.brings.0 c.args.span c.args.end c.clear_run.result r c.append.new.entries.items c.args.turn.now i.last c.stopped_page.result c.next_run_of-next.result c.stopped_page.ensures c.next_run_of-next.ensures c.append.ensures.entries in
     let P : MemoryValue → Type 0 = λ m. OthersKeep m (seen i.boot.value c.append.new.entries.items c.remove-claim.new.self i.room) c.args.turn.now.cpu.0 in
     subst P c.self.view_is
