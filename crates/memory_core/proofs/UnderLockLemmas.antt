@@ -1,5 +1,5 @@
-use Rattle.std.proofs.Common.{◌≡◌, ◌≢◌, ℕ, Bool, true, false, Option, None, Some, List, [], ◌∷◌, ◌++◌, refl, sym, ◌∙◌, ap, subst, arith, append-nil, append_assoc, inl, inr, cond, map}
-use Rattle.std.specs.Prelude.{All, filter, drop, length, ◌==◌}
+use Rattle.std.proofs.Common.{◌≡◌, ◌≢◌, ℕ, ◌^◌, ◌≤◌, max, Bool, true, false, Option, None, Some, List, [], ◌∷◌, ◌++◌, refl, sym, ◌∙◌, ap, subst, arith, append-nil, append_assoc, inl, inr, cond, map}
+use Rattle.std.specs.Prelude.{All, IfSome, filter, fold, drop, length, ◌==◌}
 use Rattle.std.specs.Option.{option_map}
 use Rattle.std.proofs.lemmas.Bool.{cases_eq, eq-eqb, ne_eqb}
 use Rattle.std.proofs.lemmas.List.{append_cancel_left, map-append}
@@ -17,6 +17,7 @@ use Rattle.event_core.specs.Parted.{Fixed, Part}
 use Rattle.event_core.proofs.RisingLemmas.{filter-at}
 use Rattle.event_core.proofs.StandingLemmas.{claim_of-push}
 use Rattle.page_module.specs.Spans.{Taken}
+use Rattle.page_module.specs.declared.ticket.Ticket.{Ticket}
 use Rattle.accept_sizes.specs.declared.accept.RunEnd.{RunEnd}
 use Rattle.claim_lock.specs.Knows.{Finds, MayGive, IsOf, left_known}
 use Rattle.claim_lock.specs.declared.known.Known.{Known}
@@ -187,3 +188,31 @@ may-report cpu left found claim span calls end f b = record {
   others = All-append (λ (e : Entry). e.cpu.0 ≢ cpu) b.rest f.rest b.others f.others;
   brings = subst (λ boot. BringsTo boot (calls_of boot b.before) claim.run span calls end) (sym f.boot) b.brings;
 }
+
+-- and where nothing was done meanwhile
+pub brings-now : (memory : MemoryValue) (cpu : ℕ) (claim : Claimed) (span : Taken) (calls : List ModuleCall) (end : RunEnd)
+    → BringsTo memory.boot (calls_of memory.boot memory.entries) claim.run span calls end → BringsSince memory cpu claim span calls end
+brings-now memory cpu claim span calls end brings = record {
+  before = memory.entries;
+  rest = [];
+  split = sym (append-nil memory.entries);
+  others = All-nil (λ (e : Entry). e.cpu.0 ≢ cpu);
+  brings = brings;
+}
+
+-- the last stamp only grows
+last-grows : (from : ℕ) (entries rest : List Entry) → fold (λ last (e : Entry). max last e.stamp) from entries ≤ fold (λ last (e : Entry). max last e.stamp) from (entries ++ rest)
+last-grows from [] [] = omega arith
+last-grows from [] (e ∷ es) = let more = last-grows (max from e.stamp) [] es in omega (arith, more)
+last-grows from (e ∷ es) rest = last-grows (max from e.stamp) es rest
+
+-- its clock is low enough still
+pub clock-again : (cpu clock : ℕ) (left found : MemoryValue) → FoundAgain cpu left found → clock ≤ max (2 ^ 64) (last_stamp left.entries) → clock ≤ max (2 ^ 64) (last_stamp found.entries)
+clock-again cpu clock left found f low =
+    let more = last-grows 0 left.entries f.rest in
+    let is : last_stamp found.entries ≡ last_stamp (left.entries ++ f.rest) = ap last_stamp f.longer in
+    omega (arith, low, more, is)
+
+-- and what is out for it is the same
+pub out-again : (cpu : ℕ) (left found : MemoryValue) (ticket : Ticket) → FoundAgain cpu left found → IfSome (handed_to left cpu) (λ h. h.ticket ≡ ticket) → IfSome (handed_to found cpu) (λ h. h.ticket ≡ ticket)
+out-again cpu left found ticket f has = let P : Option Handed → Type 0 = λ h. IfSome h (λ (x : Handed). x.ticket ≡ ticket) in subst P (sym f.handed) has

@@ -1,17 +1,31 @@
 use Rattle.std.proofs.Common.{◌≡◌, ◌++◌, ◌<◌, Option, sym, ◌∙◌, ap, subst}
 use Rattle.std.specs.Prelude.{IfSome}
+use Rattle.event_core.specs.declared.boot.Boot.{Boot}
 use Rattle.event_core.specs.declared.entry.Turn.{Turn}
 use Rattle.event_core.specs.declared.event.Event.TheVariants as event
 use Rattle.event_core.specs.MemoryRows.{report_event}
 use Rattle.page_module.specs.Spans.{Taken}
+use Rattle.accept_sizes.specs.Accepts.{Accepts}
 use Rattle.memory_core.specs.Answers.{ReportedBy}
 use Rattle.memory_core.specs.Steps.{Appends, pages_of}
 use Rattle.guest_run.specs.Answered.{IsRunOf}
+use Rattle.memory_core.proofs.UnderLockLemmas.{brings-now}
 use Rattle.guest_run.proofs.ReadyLemmas.{claiming-halted, claiming-report, report-halted, report-added, report-whole, report-further, calls-reported, claim-has}
 use Rattle.guest_run.specs.declared.processor.Processor.{Processor}
 use Rattle.guest_run.specs.Replies.{FaultsTold}
 use Rattle.guest_run.proofs.FaultLemmas.{on_err, one_told, stopped_rose}
 use Rattle.guest_run.proofs.processor.Processor.report.Goals as goal
+
+pub report-requires-clause-brings : goal.report-requires-clause-brings
+report-requires-clause-brings g c =
+    let p = c.args.self.now in
+    let claiming = c.requires.claiming in
+    let A : Boot → Type 0 = λ b. Accepts b.hosts c.args.span c.accept_span.new.span c.in_ok-calls.calls in (
+      claiming.claim,
+      claim-has p c.args.number c.args.span c.turn-turn.result claiming c.turn-turn.ensures.turn,
+      brings-now p.memory c.turn-turn.result.cpu.0 claiming.claim c.accept_span.new.span c.in_ok-calls.calls c.in_ok-calls.end
+          (record { taken = c.args.span; has = claiming.out.has; accepts = subst A (sym claiming.same) c.in_ok-calls.ensures.accepts; stop = c.in_ok-calls.ensures.stop }),
+    )
 
 pub run_of-requires-clause-whole : goal.run_of-requires-clause-whole
 run_of-requires-clause-whole g c =
