@@ -10,6 +10,7 @@ ghost use Rattle.event_core.specs.Table.{Bits};
 ghost use Rattle.event_core.specs.Runs.{state_in as first_state_of};
 ghost use Rattle.event_core.specs.Calls.{calls_of, SoundCalls};
 ghost use Rattle.event_core.specs.Claims.{Claimed, claim_of};
+ghost use Rattle.event_core.specs.Locally.{Rising};
 ghost use Rattle.event_core.specs.MemoryRows.{page_state, report_event, some_unaccepted};
 ghost use Rattle.event_core.specs.Units.{bit_after, first_run, guarded_units, unit_pages};
 ghost use Rattle.page_module.specs.States.{state_in};
@@ -355,9 +356,10 @@ impl Memory {
     }
 
     /// The page table and the entries. The pages of the open claims' runs are out, and every other page is in, in its state after
-    /// all entries.
+    /// all entries. The entries rise.
     pub fn into_parts(self) -> (PageTable, Entries)
         ensures entries { result.1 ≡ self.entries }
+        ensures rising { Rising self.entries }
         ensures table { GivesTable self result.0 }
     {
         let Memory {
