@@ -130,8 +130,8 @@ all-but-last P xs y all = (All-pop P (xs ++ y ∷ []) xs (Some y) refl all).0
 -- one more entry, of which the claims of other processors and the states of their pages stay
 runs-keep-push : (boot : Boot) (entries : List Entry) (turn : Turn) (last : ℕ) (event : Event) → RunsKeep boot entries
     → ((other : ℕ) (claim : Claimed) (page : ℕ) → other ≢ turn.cpu.0 → claim_of boot entries other ≡ Some claim
-      → in_range (pages_first boot claim.run) (pages_count boot claim.run) page ≡ true
-      → page_state boot (calls_of boot (entries ++ bare_entry turn last event ∷ [])) page ≡ page_state boot (calls_of boot entries) page)
+    → in_range (pages_first boot claim.run) (pages_count boot claim.run) page ≡ true
+    → page_state boot (calls_of boot (entries ++ bare_entry turn last event ∷ [])) page ≡ page_state boot (calls_of boot entries) page)
     → RunsKeep boot (entries ++ bare_entry turn last event ∷ [])
 runs-keep-push boot entries turn last event keep others cpu claim before rest page has split none inside =
     elim (last-of rest) [
@@ -150,8 +150,8 @@ runs-keep-push boot entries turn last event keep others cpu claim before rest pa
 
 pub steady-push : (boot : Boot) (entries entries' : List Entry) (turn : Turn) (last : ℕ) (event : Event) → entries' ≡ entries ++ bare_entry turn last event ∷ [] → last ≡ last_stamp entries → Steady boot entries
     → ((other : ℕ) (claim : Claimed) (page : ℕ) → other ≢ turn.cpu.0 → claim_of boot entries other ≡ Some claim
-      → in_range (pages_first boot claim.run) (pages_count boot claim.run) page ≡ true
-      → page_state boot (calls_of boot (entries ++ bare_entry turn last event ∷ [])) page ≡ page_state boot (calls_of boot entries) page)
+    → in_range (pages_first boot claim.run) (pages_count boot claim.run) page ≡ true
+    → page_state boot (calls_of boot (entries ++ bare_entry turn last event ∷ [])) page ≡ page_state boot (calls_of boot entries) page)
     → Steady boot entries'
 steady-push boot entries entries' turn last event is last_is s others =
     subst (Steady boot) (sym is)

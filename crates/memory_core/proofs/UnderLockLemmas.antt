@@ -1,5 +1,5 @@
-use Rattle.std.proofs.Common.{◌≡◌, ◌≢◌, ℕ, ◌^◌, ◌≤◌, max, Bool, true, false, Option, None, Some, List, [], ◌∷◌, ◌++◌, refl, sym, ◌∙◌, ap, subst, arith, append-nil, append_assoc, inl, inr, cond, map}
-use Rattle.std.specs.Prelude.{All, IfSome, filter, fold, drop, length, ◌==◌}
+use Rattle.std.proofs.Common.{◌≡◌, ◌≢◌, ℕ, ◌≤◌, max, true, false, Option, None, Some, List, [], ◌∷◌, ◌++◌, refl, sym, ◌∙◌, ap, subst, arith, append-nil, append_assoc, inl, inr, cond, map}
+use Rattle.std.specs.Prelude.{All, IfSome, fold, drop, length, ◌==◌}
 use Rattle.std.specs.Option.{option_map}
 use Rattle.std.proofs.lemmas.Bool.{cases_eq, eq-eqb, ne_eqb}
 use Rattle.std.proofs.lemmas.List.{append_cancel_left, map-append}
@@ -17,12 +17,11 @@ use Rattle.event_core.specs.Parted.{Fixed, Part}
 use Rattle.event_core.proofs.RisingLemmas.{filter-at}
 use Rattle.event_core.proofs.StandingLemmas.{claim_of-push}
 use Rattle.page_module.specs.Spans.{Taken}
-use Rattle.page_module.specs.declared.ticket.Ticket.{Ticket}
 use Rattle.accept_sizes.specs.declared.accept.RunEnd.{RunEnd}
 use Rattle.claim_lock.specs.Knows.{Finds, MayGive, IsOf, left_known}
 use Rattle.claim_lock.specs.declared.known.Known.{Known}
 use Rattle.memory_core.specs.Answers.{OthersKeep}
-use Rattle.memory_core.specs.Away.{NoneOf, BringsSince, FoundAgain}
+use Rattle.memory_core.specs.Away.{NoneOf, BringsSince, FoundAgain, MayReport}
 use Rattle.memory_core.specs.Steps.{Appends, BringsTo, bare_entry, last_stamp}
 use Rattle.memory_core.specs.UnderLock.{fixed_of, part_of, moved_of, unmoved, claim_part, pages_out, room_kept}
 use Rattle.memory_core.specs.Value.{MemoryValue, Handed, handed_to}
@@ -178,10 +177,10 @@ found-again known left found is_fixed is_part is_seen is_own finds =
       handed = handed-back (handed_to found cpu) (handed_to left cpu) (ap (λ (p : Part). p.out) part) (ap (λ (p : Part). p.room) part);
     }
 
--- So it may report: the pages that are out for it have the states in which it got them, whatever others did meanwhile.
-pub may-report : (cpu : ℕ) (left found : MemoryValue) (claim : Claimed) (span : Taken) (calls : List ModuleCall) (end : RunEnd) → FoundAgain cpu left found
+-- the calls brought its span from the states in which it got the pages, whatever others did meanwhile
+brings-again : (cpu : ℕ) (left found : MemoryValue) (claim : Claimed) (span : Taken) (calls : List ModuleCall) (end : RunEnd) → FoundAgain cpu left found
     → BringsSince left cpu claim span calls end → BringsSince found cpu claim span calls end
-may-report cpu left found claim span calls end f b = record {
+brings-again cpu left found claim span calls end f b = record {
   before = b.before;
   rest = b.rest ++ f.rest;
   split = f.longer ∙ ap (λ es. es ++ f.rest) b.split ∙ append_assoc b.before b.rest f.rest;
@@ -189,7 +188,7 @@ may-report cpu left found claim span calls end f b = record {
   brings = subst (λ boot. BringsTo boot (calls_of boot b.before) claim.run span calls end) (sym f.boot) b.brings;
 }
 
--- and where nothing was done meanwhile
+-- where nothing was done meanwhile, they are those of now
 pub brings-now : (memory : MemoryValue) (cpu : ℕ) (claim : Claimed) (span : Taken) (calls : List ModuleCall) (end : RunEnd)
     → BringsTo memory.boot (calls_of memory.boot memory.entries) claim.run span calls end → BringsSince memory cpu claim span calls end
 brings-now memory cpu claim span calls end brings = record {
@@ -206,13 +205,17 @@ last-grows from [] [] = omega arith
 last-grows from [] (e ∷ es) = let more = last-grows (max from e.stamp) [] es in omega (arith, more)
 last-grows from (e ∷ es) rest = last-grows (max from e.stamp) es rest
 
--- its clock is low enough still
-pub clock-again : (cpu clock : ℕ) (left found : MemoryValue) → FoundAgain cpu left found → clock ≤ max (2 ^ 64) (last_stamp left.entries) → clock ≤ max (2 ^ 64) (last_stamp found.entries)
-clock-again cpu clock left found f low =
+-- so a processor that might report when it gave the lock back may report when it takes the lock again
+pub report-again : (left found : MemoryValue) (turn : Turn) (span : Taken) (calls : List ModuleCall) (end : RunEnd) → FoundAgain turn.cpu.0 left found → MayReport left turn span calls end → MayReport found turn span calls end
+report-again left found turn span calls end f m =
     let more = last-grows 0 left.entries f.rest in
     let is : last_stamp found.entries ≡ last_stamp (left.entries ++ f.rest) = ap last_stamp f.longer in
-    omega (arith, low, more, is)
-
--- and what is out for it is the same
-pub out-again : (cpu : ℕ) (left found : MemoryValue) (ticket : Ticket) → FoundAgain cpu left found → IfSome (handed_to left cpu) (λ h. h.ticket ≡ ticket) → IfSome (handed_to found cpu) (λ h. h.ticket ≡ ticket)
-out-again cpu left found ticket f has = let P : Option Handed → Type 0 = λ h. IfSome h (λ (x : Handed). x.ticket ≡ ticket) in subst P (sym f.handed) has
+    let low = m.clock in
+    let P : Option Handed → Type 0 = λ h. IfSome h (λ (x : Handed). x.ticket ≡ span.ticket) in
+    record {
+      claim = m.claim;
+      claimed = f.claim ∙ m.claimed;
+      out = subst P (sym f.handed) m.out;
+      brings = brings-again turn.cpu.0 left found m.claim span calls end f m.brings;
+      clock = omega (arith, low, more, is);
+    }

@@ -1,8 +1,9 @@
 -- What stays of a processor's open claim while others step the memory (own rule).
-use Rattle.std.specs.Prelude.{ℕ, List, ◌++◌, Some, true, ◌≡◌, ◌≢◌, All}
+use Rattle.std.specs.Prelude.{ℕ, List, ◌++◌, Some, true, ◌≡◌, ◌≢◌, ◌^◌, ◌≤◌, All, IfSome, max}
 use Rattle.guest_base.specs.Ranges.{in_range}
 use Rattle.event_core.specs.declared.boot.Boot.{Boot}
 use Rattle.event_core.specs.declared.entry.Entry.{Entry}
+use Rattle.event_core.specs.declared.entry.Turn.{Turn}
 use Rattle.event_core.specs.declared.module_call.ModuleCall.{ModuleCall}
 use Rattle.event_core.specs.Calls.{calls_of}
 use Rattle.event_core.specs.Claims.{Claimed, claim_of}
@@ -10,7 +11,7 @@ use Rattle.event_core.specs.Locally.{Rising}
 use Rattle.event_core.specs.MemoryRows.{page_state, pages_first, pages_count}
 use Rattle.page_module.specs.Spans.{Taken}
 use Rattle.accept_sizes.specs.declared.accept.RunEnd.{RunEnd}
-use Rattle.memory_core.specs.Steps.{BringsTo}
+use Rattle.memory_core.specs.Steps.{BringsTo, last_stamp}
 use Rattle.memory_core.specs.Value.{MemoryValue, handed_to}
 
 -- entries that other processors made
@@ -40,6 +41,16 @@ pub record BringsSince (memory : MemoryValue) (cpu : ℕ) (claim : Claimed) (spa
   pub split : memory.entries ≡ before ++ rest
   pub others : NoneOf cpu rest
   pub brings : BringsTo memory.boot (calls_of memory.boot before) claim.run span calls end
+
+-- a processor may report its open run: the span is the one that is out for it, calls brought it to
+-- its states, and stamps are left for the claim
+pub record MayReport (memory : MemoryValue) (turn : Turn) (span : Taken) (calls : List ModuleCall)
+    (end : RunEnd) : Type 0 where
+  pub claim : Claimed
+  pub claimed : claim_of memory.boot memory.entries turn.cpu.0 ≡ Some claim
+  pub out : IfSome (handed_to memory turn.cpu.0) (λ h. h.ticket ≡ span.ticket)
+  pub brings : BringsSince memory turn.cpu.0 claim span calls end
+  pub clock : turn.clock ≤ max (2 ^ 64) (last_stamp memory.entries)
 
 -- a processor finds the memory as it left it, but for the entries of others: its claim is the same,
 -- and so is what is out for it, with the room for its end

@@ -1,6 +1,6 @@
 -- What the lock of the memory has to know of it (own rule).
 use Rattle.std.specs.Prelude.{ℕ, List, [], ◌∷◌, Option, None, Some, map}
-use Rattle.std.specs.Option.{option_map, option_map_or}
+use Rattle.std.specs.Option.{option_map}
 use Rattle.event_core.specs.declared.boot.Boot.{Boot}
 use Rattle.event_core.specs.Boot.{set_runs}
 use Rattle.event_core.specs.Claims.{Claimed, claim_of}

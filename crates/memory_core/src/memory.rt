@@ -14,7 +14,7 @@ ghost use Rattle.event_core.specs.Locally.{Rising};
 ghost use Rattle.event_core.specs.MemoryRows.{page_state, report_event, some_unaccepted};
 ghost use Rattle.event_core.specs.Units.{bit_after, first_run, guarded_units, unit_pages};
 ghost use Rattle.page_module.specs.States.{state_in};
-ghost use Rattle.memory_core.specs.Away.{BringsSince};
+ghost use Rattle.memory_core.specs.Away.{MayReport};
 ghost use Rattle.memory_core.specs.Bitmaps.{BitsAfter};
 ghost use Rattle.memory_core.specs.Value.{handed_to};
 ghost use Rattle.memory_core.specs.Steps.{last_stamp, unaccepted_count, claim_of_units, Appends, IsByteRange, MayBegin};
@@ -294,11 +294,7 @@ impl Memory {
     /// `Next` has the pages of the claim's next run. Where none is left, or the acceptance stopped, the claim closes: `Stopped`
     /// comes exactly where `end` is `Stopped`. The room that a report needs was taken with the claim.
     pub fn report(&mut self, turn: &mut Turn, span: Span, calls: Calls, end: RunEnd) -> Reported
-        requires out { IfSome (handed_to self.old turn.old.cpu.0) (λ h. h.ticket ≡ span.ticket) }
-        requires brings { (claim : Claimed)
-            × (claim_of self.old.boot self.old.entries turn.old.cpu.0 ≡ Some claim)
-            × BringsSince self.old turn.old.cpu.0 claim span calls end }
-        requires clock { turn.old.clock ≤ max (2 ^ 64) (last_stamp self.old.entries) }
+        requires step { MayReport self.old turn.old span calls end }
         ensures reported { (claim : Claimed)
             → claim_of self.old.boot self.old.entries turn.old.cpu.0 ≡ Some claim
             → ReportedBy self.old self.new turn.old claim calls result }
