@@ -14,3 +14,4 @@ pub mod PartsLemmas
 pub mod BegunLemmas
 pub mod ReportedLemmas
 pub mod UnderLockLemmas
+pub mod Sent

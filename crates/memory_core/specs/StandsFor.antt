@@ -92,8 +92,8 @@ reports_of (Some claim) = claim.room + 1
 
 -- What a memory keeps stands for its entries: its page table, bitmap and claims are those of the
 -- definitions, and there is room for the reports of its open claims and for the next step. Stamps
--- stay below 2^65 until all claims are closed. The entries rise, and other processors' entries leave
--- the pages of an open run.
+-- stay below 2^65 until all claims are closed. The entries rise, and entries of other processors
+-- leave the pages of an open run.
 pub record StandsFor (boot : Boot) (entries : Vec Entry Global) (last : ℕ) (table : Table)
     (bits : Option Bits) (claims : List (Option OpenClaim)) (pages kept room : ℕ) : Type 0 where
   pub booted : IsBooted boot
