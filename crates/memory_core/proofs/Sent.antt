@@ -1,5 +1,5 @@
 -- The memory may go to another thread, which its lock asks for.
-use denote.Param.Send.{IsSend, struct_send, recorded_send, view_send, sendable}
+use denote.Param.Send.{IsSend, IsSync, struct_send, recorded_send, view_send, sendable}
 use denote.Struct.Declared.{shape}
 use Rattle.std.proofs.Crossing.{crosses}
 use Rattle.std.proofs.alloc.Global.TheSendSync as heap
@@ -9,6 +9,11 @@ use Rattle.page_module.proofs.table.PageTable.TheSendSync as table
 use Rattle.unaccepted_bitmap.proofs.bitmap.Bitmap.TheSendSync as bits
 use Rattle.accepting_ranges.proofs.accepting.Accepting.TheSendSync as accepting
 use Rattle.memory_core.proofs.claims.OpenClaim.TheSendSync as claim
+use Rattle.claim_lock.specs.contracts.lock.ClaimLock as Lock
+use Rattle.claim_lock.specs.contracts.pass.Pass as Pass
+use Rattle.claim_lock.proofs.lock.ClaimLock.TheSendSync as lock
+use Rattle.claim_lock.proofs.pass.Pass.TheSendSync as pass
+use Rattle.memory_core.specs.contracts.memory.MemoryParted.TheImpl.{ghosts}
 use Rattle.memory_core.specs.contracts.memory.Memory.{the_row}
 use Rattle.memory_core.specs.contracts.memory.Memory.TheInside as inside
 
@@ -22,3 +27,10 @@ fields_send =
 
 pub memory_send : IsSend the_row
 memory_send = view_send _ _ _ _ _ fields_send
+
+-- so threads may share a lock over it, each with its pass
+pub lock_sync : IsSync (Lock.the_row the_row ghosts)
+lock_sync = lock.the_sync the_row ghosts memory_send
+
+pub pass_send : IsSend (Pass.the_row the_row)
+pass_send = pass.the_send the_row memory_send
