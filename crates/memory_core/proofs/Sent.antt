@@ -21,9 +21,25 @@ use Rattle.memory_core.specs.contracts.memory.Memory.TheInside as inside
 fields_send : IsSend inside.the_row
 fields_send =
     recorded_send inside.the_field.row _ _ inside.the_type.to_one
-    (struct_send (shape inside.the_type)
-    (heap.the_field_send, (search sendable depth 20, (table.the_send, (search (sendable, bits.the_send) depth 20, (accepting.the_send _ _ claim.the_send, (search (sendable, units.the_send, crosses) depth 20,
-    (search (sendable, entry.the_send, crosses) depth 20, (search sendable depth 20, (search sendable depth 20, (search sendable depth 20, (search sendable depth 20, tt))))))))))))
+    (struct_send (shape inside.the_type) (
+      heap.the_field_send,
+      (
+        search sendable depth 20,
+        (
+          table.the_send,
+          (
+            search (sendable, bits.the_send) depth 20,
+            (
+              accepting.the_send _ _ claim.the_send,
+              (
+                search (sendable, units.the_send, crosses) depth 20,
+                (search (sendable, entry.the_send, crosses) depth 20, (search sendable depth 20, (search sendable depth 20, (search sendable depth 20, (search sendable depth 20, tt))))),
+              ),
+            ),
+          ),
+        ),
+      ),
+    ))
 
 pub memory_send : IsSend the_row
 memory_send = view_send _ _ _ _ _ fields_send

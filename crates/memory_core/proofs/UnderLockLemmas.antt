@@ -20,6 +20,7 @@ use Rattle.page_module.specs.Spans.{Taken}
 use Rattle.accept_sizes.specs.declared.accept.RunEnd.{RunEnd}
 use Rattle.claim_lock.specs.Knows.{Finds, MayGive, IsOf, left_known}
 use Rattle.claim_lock.specs.declared.known.Known.{Known}
+use Rattle.memory_core.specs.contracts.memory.MemoryParted.TheImpl.{ghosts}
 use Rattle.memory_core.specs.Answers.{OthersKeep}
 use Rattle.memory_core.specs.Away.{NoneOf, BringsSince, FoundAgain, MayReport}
 use Rattle.memory_core.specs.Steps.{Appends, BringsTo, bare_entry, last_stamp}
@@ -30,7 +31,7 @@ use Rattle.memory_core.proofs.StepLemmas.{claim-other}
 -- ---- what a processor may have done when it gives the lock back
 
 abbrev pub MayGiveBack : ℕ → MemoryValue → MemoryValue → Type 0
-MayGiveBack cpu old new = MayGive fixed_of part_of moved_of cpu old new
+MayGiveBack cpu old new = MayGive ghosts.fixed ghosts.part ghosts.moved cpu old new
 
 -- a part of what the memory has for a processor
 abbrev part_by : Boot → Option Claimed → Option Handed → Part
@@ -89,8 +90,8 @@ may-give-both cpu a b c first then = record {
 -- ---- what a processor finds when it takes the lock again
 
 -- what the memory has of a processor is what the processor made, when it gives the lock back
-pub own-kept : (known : Known) (taken left : MemoryValue) → Finds fixed_of part_of moved_of known taken → MayGiveBack known.number taken left
-    → made_by known.number (moved_of left) ≡ (left_known part_of moved_of known taken left).own
+pub own-kept : (known : Known) (taken left : MemoryValue) → Finds ghosts.fixed ghosts.part ghosts.moved known taken → MayGiveBack known.number taken left
+    → made_by known.number (ghosts.moved left) ≡ (left_known ghosts.part ghosts.moved known taken left).own
 own-kept known taken left finds gives =
     let new = gives.only_added.0 in
     ap (made_by known.number) gives.only_added.1
@@ -159,8 +160,8 @@ handed-back (Some a) (Some b) pages room =
 
 -- A processor finds the memory as it left it but for the entries of others, where it knows the memory as it left it and has made
 -- just its entries in it.
-pub found-again : (known : Known) (left found : MemoryValue) → known.fixed ≡ fixed_of left → known.part ≡ part_of left known.number → known.seen ≡ moved_of left → known.own ≡ made_by known.number (moved_of left)
-    → Finds fixed_of part_of moved_of known found → FoundAgain known.number left found
+pub found-again : (known : Known) (left found : MemoryValue) → known.fixed ≡ ghosts.fixed left → known.part ≡ ghosts.part left known.number → known.seen ≡ ghosts.moved left → known.own ≡ made_by known.number (ghosts.moved left)
+    → Finds ghosts.fixed ghosts.part ghosts.moved known found → FoundAgain known.number left found
 found-again known left found is_fixed is_part is_seen is_own finds =
     let cpu = known.number in
     let boots : Some found.boot ≡ Some left.boot = ap (λ (f : Fixed). f.boot) (finds.as_given ∙ is_fixed) in
