@@ -16,7 +16,7 @@ use Rattle.event_core.specs.declared.event.Event.TheVariants.{Claim}
 use Rattle.event_core.specs.declared.module_call.ModuleCall.{ModuleCall}
 use Rattle.event_core.specs.Calls.{calls_of}
 use Rattle.event_core.specs.Claims.{Claimed, claim_of, claim_step, units_meet}
-use Rattle.event_core.specs.MemoryRows.{pages_first, pages_count}
+use Rattle.event_core.specs.MemoryRows.{page_state, pages_first, pages_count}
 use Rattle.event_core.specs.Units.{bit_after, unit_pages, units_end, first_run}
 use Rattle.page_module.specs.Spans.{Taken}
 use Rattle.page_module.specs.States.{state_in}
@@ -33,7 +33,7 @@ use Rattle.memory_core.specs.declared.claims.OpenClaim.{OpenClaim}
 use Rattle.memory_core.proofs.HoldsLemmas.{open-kept, none-kept, holds-open}
 use Rattle.memory_core.proofs.UnitsLemmas.{first_run-facts, run-counts}
 use Rattle.memory_core.proofs.KeptLemmas.{runs-same}
-use Rattle.memory_core.proofs.StepLemmas.{last-push, claim-mine, claim-other, calls-claimed}
+use Rattle.memory_core.proofs.StepLemmas.{steady-push, last-push, claim-mine, claim-other, calls-claimed}
 use Rattle.memory_core.proofs.OpenLemmas.{clear-of, apart-of, meets-swap, run-in, runs-few, room-left, kept-same, kept-other, cpus-set}
 
 -- the claim that is kept
@@ -161,4 +161,5 @@ stands-claimed boot entries entries' last last' table table' bits claims claims'
       entry_room = omega (arith, long, fits, more, kept_is, left_is, some, counts, need);
       table_room = omega arith;
       stamps = omega (arith, last_is, low_clock, low_last, few);
+      steady = steady-push boot entries.items entries'.items turn last event is s.last_is s.steady (λ other claimed page differ has inside. ap (λ cs. page_state boot cs page) (calls-claimed boot entries.items turn last (Some units) (Some run)));
     }

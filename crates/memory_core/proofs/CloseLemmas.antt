@@ -13,7 +13,7 @@ use Rattle.event_core.specs.declared.module_call.ModuleCall.{ModuleCall}
 use Rattle.event_core.specs.Acceptance.{stop_of}
 use Rattle.event_core.specs.Calls.{calls_of}
 use Rattle.event_core.specs.Claims.{Claimed, claim_of, claim_step}
-use Rattle.event_core.specs.MemoryRows.{next_run, report_event}
+use Rattle.event_core.specs.MemoryRows.{page_state, next_run, report_event}
 use Rattle.event_core.proofs.StandingLemmas.{calls_of-push}
 use Rattle.page_module.specs.Spans.{Taken}
 use Rattle.page_module.specs.States.{state_in}
@@ -31,9 +31,9 @@ use Rattle.memory_core.specs.StandsFor.{StandsFor, HoldsFor, spans_of, reports_o
 use Rattle.memory_core.specs.declared.claims.OpenClaim.{OpenClaim}
 use Rattle.memory_core.proofs.HoldsLemmas.{OthersSame}
 use Rattle.memory_core.proofs.BitsLemmas.{cleared-same}
-use Rattle.memory_core.proofs.StepLemmas.{last-push, claim-mine, claim-other}
+use Rattle.memory_core.proofs.StepLemmas.{steady-push, last-push, claim-mine, claim-other}
 use Rattle.memory_core.proofs.OpenLemmas.{kept-same, kept-other, cpus-set}
-use Rattle.memory_core.proofs.ReportLemmas.{Reports, opened, returned, went-on, closes, continues, next_claim}
+use Rattle.memory_core.proofs.ReportLemmas.{others-states, Reports, opened, returned, went-on, closes, continues, next_claim}
 
 -- the reported run of a memory that stands for its entries
 abbrev pub ReportsIn : Boot → List Entry → List ModuleCall → Table → Table → Option Bits → Option Bits → List (Option OpenClaim) → ℕ → OpenClaim → Claimed → Taken → RunEnd → ℕ → Type 0
@@ -103,6 +103,9 @@ stands-closed boot entries entries' last last' table table' bits bits' claims cl
       entry_room = omega (arith, long, fits, more, kept_is, sums, reports_was, reports);
       table_room = omega (arith, pieces, has);
       stamps = omega (arith, last_is, clock, stamps, kept_is, sums, reports_was, reports);
+      steady =
+          steady-push boot entries.items entries'.items turn last (report_event boot claim now) is s.last_is s.steady
+          (λ other b page differ has inside. ap (λ cs. page_state boot cs page) (calls_of-push boot entries.items (bare_entry turn last (report_event boot claim now))) ∙ others-states boot calls now (claim_of boot entries.items) table table' bits bits' (kept_of claims) cpu o claim span end cleared r other b page differ has inside);
     }
 
 -- ---- the claim goes on
@@ -159,4 +162,7 @@ stands-next boot entries entries' last last' table table' last_table bits bits' 
       entry_room = omega (arith, long, fits, more, kept_is, sums, reports_was, reports, some, less, next_room);
       table_room = omega arith;
       stamps = omega (arith, last_is, clock, stamps, kept_is, sums, reports_was, reports, some, less, next_room);
+      steady =
+          steady-push boot entries.items entries'.items turn last (report_event boot claim now) is s.last_is s.steady
+          (λ other b page differ has inside. ap (λ cs. page_state boot cs page) (calls_of-push boot entries.items (bare_entry turn last (report_event boot claim now))) ∙ others-states boot calls now (claim_of boot entries.items) table table' bits bits' (kept_of claims) cpu o claim span end cleared r other b page differ has inside);
     }

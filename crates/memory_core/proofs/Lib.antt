@@ -13,3 +13,5 @@ pub mod CloseLemmas
 pub mod PartsLemmas
 pub mod BegunLemmas
 pub mod ReportedLemmas
+pub mod UnderLockLemmas
+pub mod Sent

@@ -136,7 +136,7 @@ run-in boot claims claim page low within others inside d b is =
     (λ unit in_run. let at = in_range-elim claim.run.first claim.run.count unit in_run in other-unit b claim unit other.0 other.1 other.2 (omega (arith, low, at.0)) (omega (arith, within, at.1)))
     inside
 
-if-in : {A : Type 0} (b : Bool) (x y : A) (z : A) → (b ≡ true → x ≡ y) → cond b x z ≡ cond b y z
+pub if-in : {A : Type 0} (b : Bool) (x y : A) (z : A) → (b ≡ true → x ≡ y) → cond b x z ≡ cond b y z
 if-in true x y z h = h refl
 if-in false x y z h = refl
 

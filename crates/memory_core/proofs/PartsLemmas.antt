@@ -15,12 +15,15 @@ use Rattle.event_core.specs.Boot.{BootRight, Uncalled}
 use Rattle.event_core.specs.Calls.{calls_of, SoundCalls}
 use Rattle.event_core.specs.Claims.{Claimed, claim_of}
 use Rattle.event_core.specs.Given.{FitsGiven, unit_by, base_by}
+use Rattle.event_core.specs.Legal.{ComesBefore}
+use Rattle.event_core.specs.Locally.{Rising}
 use Rattle.event_core.specs.Map.{MapRules}
 use Rattle.event_core.specs.MemoryRows.{page_state}
 use Rattle.event_core.specs.Runs.{state_in as first_state_of}
 use Rattle.event_core.specs.Stub.{default_unit, least_start, unaccepted}
 use Rattle.event_core.specs.Table.{Bits, is_unit}
 use Rattle.event_core.specs.Units.{bit_of, bit_after, is_marked, unit_count, unit_first, unit_pages}
+use Rattle.event_core.proofs.RisingLemmas.{pairs-nil}
 use Rattle.event_core.proofs.BootFacts.{unit-size, IsSize, TakesNone, set-pending, ram-low, boot-marks, boot-takes-none}
 use Rattle.page_module.specs.States.{state_in}
 use Rattle.page_module.specs.Tables.{Table, is_out}
@@ -160,6 +163,10 @@ new-stands descriptors given hosts slots areas cpus boot value entries table bit
       entry_room = omega (arith, long);
       table_room = omega arith;
       stamps = omega arith;
+      steady = record {
+        rising = subst Rising (sym none) (pairs-nil ComesBefore);
+        runs_keep = λ cpu claim before rest page is. (let no : None ≡ Some claim = sym (no-claim boot entries.items none cpu) ∙ is in cc);
+      };
     })
 
 -- the table of a memory that stands for its entries

@@ -12,7 +12,7 @@ use Rattle.event_core.specs.declared.module_call.ModuleCall.{ModuleCall}
 use Rattle.event_core.specs.Acceptance.{stop_of}
 use Rattle.event_core.specs.Calls.{calls_of}
 use Rattle.event_core.specs.Claims.{Claimed, claim_of}
-use Rattle.event_core.specs.MemoryRows.{page_state, next_run, report_event, cleared_by}
+use Rattle.event_core.specs.MemoryRows.{page_state, pages_first, pages_count, next_run, report_event, cleared_by}
 use Rattle.event_core.specs.Units.{unit_pages}
 use Rattle.page_module.specs.Spans.{Taken}
 use Rattle.page_module.specs.States.{state_in}
@@ -25,6 +25,7 @@ use Rattle.accept_sizes.specs.declared.accept.RunEnd.{RunEnd}
 use Rattle.accept_sizes.specs.declared.accept.RunEnd.TheVariants.{Whole, Stopped}
 use Rattle.accepting_ranges.specs.Claims.{kept_of}
 use Rattle.accepting_ranges.proofs.ClaimLemmas.{kept_of-inside}
+use Rattle.memory_core.specs.Away.{BringsSince, RunsKeep}
 use Rattle.memory_core.specs.Answers.{ReportedBy, Closes, OthersKeep, answer_at}
 use Rattle.memory_core.specs.Bitmaps.{bits_in, SameBits, ClearedIn, next_of}
 use Rattle.memory_core.specs.Value.{MemoryValue, Handed, handed_to}
@@ -35,7 +36,7 @@ use Rattle.memory_core.proofs.BegunLemmas.{seen, appends-of}
 use Rattle.memory_core.proofs.CloseLemmas.{ReportsIn}
 use Rattle.memory_core.proofs.HoldsLemmas.{kept-open}
 use Rattle.memory_core.proofs.KeptLemmas.{set-twice}
-use Rattle.memory_core.proofs.OpenLemmas.{handed-is, kept-other}
+use Rattle.memory_core.proofs.OpenLemmas.{handed-is, if-in, kept-other}
 use Rattle.memory_core.proofs.ReportLemmas.{opened, counted, others-states, next-is, next-few, next-facts, not-stopped}
 
 pub same-claim : (found : Option Claimed) (a b : Claimed) → found ≡ Some a → found ≡ Some b → a ≡ b
@@ -44,20 +45,36 @@ same-claim found a b is_a is_b = let two : Some a ≡ Some b = sym is_a ∙ is_b
 handed-ticket : (found : Option Handed) (o : OpenClaim) (ticket : Ticket) → found ≡ handed_for (Some o) → IfSome found (λ h. h.ticket ≡ ticket) → o.ticket ≡ ticket
 handed-ticket found o ticket is has = let P : Option Handed → Type 0 = λ h. IfSome h (λ (x : Handed). x.ticket ≡ ticket) in let here : IfSome (handed_for (Some o)) (λ (x : Handed). x.ticket ≡ ticket) = subst P is has in here
 
+-- calls brought the span of an open run from the states that its pages have now
+brings-still : (memory : MemoryValue) (cpu : ℕ) (claim : Claimed) (span : Taken) (calls : List ModuleCall) (end : RunEnd) → claim_of memory.boot memory.entries cpu ≡ Some claim → RunsKeep memory.boot memory.entries → BringsSince memory cpu claim span calls end
+    → BringsTo memory.boot (calls_of memory.boot memory.entries) claim.run span calls end
+brings-still memory cpu claim span calls end has keep b = record {
+  taken = b.brings.taken;
+  has = record {
+    pages = b.brings.has.pages;
+    states = λ page.
+        b.brings.has.states page
+        ∙ if-in (in_range (pages_first memory.boot claim.run) (pages_count memory.boot claim.run) page) (page_state memory.boot (calls_of memory.boot b.before) page) (page_state memory.boot (calls_of memory.boot memory.entries) page) None
+        (keep cpu claim b.before b.rest page has b.split b.others);
+  };
+  accepts = b.brings.accepts;
+  stop = b.brings.stop;
+}
+
 -- the reported run, of what a report requires and its parts give
 pub reports-of : (boot : Boot) (entries : List Entry) (claims : List (Option OpenClaim)) (room : ℕ) (v : MemoryValue) (now : List ModuleCall) (table table' : Table) (bits bits' : Option Bits) (cpu : ℕ) (o : OpenClaim) (claim : Claimed) (span : Taken) (end : RunEnd) (cleared : ℕ)
     → seen boot entries claims room ≡ v → HoldsFor boot (calls_of boot entries) (claim_of boot entries) table.runs table.out (bits_in bits) (kept_of claims) → SameBits boot bits → 0 < unit_pages boot
     → claim_of v.boot v.entries cpu ≡ Some claim → kept_of claims cpu ≡ Some o → IfSome (handed_to v cpu) (λ h. h.ticket ≡ span.ticket)
-    → BringsTo v.boot (calls_of v.boot v.entries) claim.run span now end
+    → RunsKeep boot entries → BringsSince v cpu claim span now end
     → ClearedIn bits bits' (pending_of span) o.run cleared
     → ((page : ℕ) → state_in table'.runs page ≡ cond (in_range span.ticket.pages.first span.ticket.pages.count page) (state_in span.runs page) (state_in table.runs page))
     → table'.out ≡ without span.ticket table.out
     → ReportsIn boot entries now table table' bits bits' claims cpu o claim span end cleared
-reports-of boot entries claims room v now table table' bits bits' cpu o claim span end cleared view holds same some claimed keeps ticket brings clears back out =
+reports-of boot entries claims room v now table table' bits bits' cpu o claim span end cleared view holds same some claimed keeps ticket stay since clears back out =
     let claimed_here : claim_of boot entries cpu ≡ Some claim = ap (λ (m : MemoryValue). claim_of m.boot m.entries cpu) view ∙ claimed in
     let found = kept-open boot (bits_in bits) table.out (kept_of claims cpu) (claim_of boot entries cpu) o keeps (holds.open_claims cpu) in
     let run : o.run ≡ claim.run = found.2.run ∙ ap (λ (c : Claimed). c.run) (same-claim (claim_of boot entries cpu) found.0 claim found.1 claimed_here) in
-    let B : MemoryValue → Type 0 = λ m. BringsTo m.boot (calls_of m.boot m.entries) claim.run span now end in
+    let B : MemoryValue → Type 0 = λ m. BringsSince m cpu claim span now end in
     let C : Units → Type 0 = λ u. ClearedIn bits bits' (pending_of span) u cleared in
     record {
       holds = holds;
@@ -66,7 +83,7 @@ reports-of boot entries claims room v now table table' bits bits' cpu o claim sp
       claimed = claimed_here;
       keeps = keeps;
       ticket = handed-ticket (handed_to v cpu) o span.ticket (ap (λ (m : MemoryValue). handed_to m cpu) (sym view) ∙ handed-is claims cpu ∙ ap handed_for keeps) ticket;
-      brings = subst B (sym view) brings;
+      brings = brings-still (seen boot entries claims room) cpu claim span now end claimed_here stay (subst B (sym view) since);
       clears = subst C run clears;
       back = back;
       out = out;

@@ -1,11 +1,14 @@
-use Rattle.std.proofs.Common.{◌≡◌, ◌≢◌, ℕ, ◌+◌, ◌-◌, ◌*◌, ◌^◌, ◌<◌, ◌≤◌, Bool, true, false, Option, None, Some, List, [], ◌∷◌, ◌++◌, refl, sym, ◌∙◌, ap, subst, inl, inr, arith, cond, append-nil, length, max, eq-eqb, eqb-true}
-use Rattle.std.specs.Prelude.{Vec, vec_capacity, ◌==◌}
+use Rattle.std.proofs.Common.{◌≡◌, ◌≢◌, ℕ, ◌⊎◌, ◌+◌, ◌-◌, ◌*◌, ◌^◌, ◌<◌, ◌≤◌, Bool, true, false, Option, None, Some, List, [], ◌∷◌, ◌++◌, refl, sym, ◌∙◌, ap, subst, inl, inr, arith, cond, append-nil, append_assoc, length, max, eq-eqb, eqb-true}
+use Rattle.std.specs.Prelude.{All, fold, Vec, vec_capacity, ◌==◌}
 use Rattle.std.specs.declared.alloc.Global.{Global}
 use Rattle.std.proofs.Math.Path.{fun_ext}
 use Rattle.std.proofs.Math.Nat.{mul-le-mul_right}
 use Rattle.std.proofs.lemmas.Bool.{cases_Bool}
-use Rattle.std.proofs.lemmas.List.{length_push}
+use Rattle.std.proofs.lemmas.List.{length_push, same_from_push}
+use Rattle.std.proofs.lemmas.List.Elements.{All-nil, All-cons, All-pop}
+use Rattle.std.proofs.lemmas.List.Quantifiers.{all_pairs_push}
 use Rattle.std.proofs.lemmas.List.Sums.{fold-append}
+use Rattle.guest_base.specs.Ranges.{in_range}
 use Rattle.guest_base.specs.declared.memory.Units.{Units}
 use Rattle.event_core.specs.declared.boot.Boot.{Boot}
 use Rattle.event_core.specs.declared.entry.Entry.{Entry}
@@ -15,10 +18,15 @@ use Rattle.event_core.specs.declared.event.Event.TheVariants.{Claim, Asked}
 use Rattle.event_core.specs.declared.module_call.ModuleCall.{ModuleCall}
 use Rattle.event_core.specs.Calls.{calls_of}
 use Rattle.event_core.specs.Claims.{Claimed, claim_of, claim_step, opened}
+use Rattle.event_core.specs.Legal.{ComesBefore}
+use Rattle.event_core.specs.Locally.{Rising}
+use Rattle.event_core.specs.MemoryRows.{page_state, pages_first, pages_count}
+use Rattle.event_core.proofs.RisingLemmas.{all-middle}
 use Rattle.event_core.proofs.StandingLemmas.{calls_of-push, claim_of-push}
 use Rattle.page_module.specs.Tables.{Table}
 use Rattle.event_core.specs.Table.{Bits}
 use Rattle.accepting_ranges.specs.Claims.{kept_of}
+use Rattle.memory_core.specs.Away.{NoneOf, RunsKeep, Steady}
 use Rattle.memory_core.specs.Bitmaps.{bits_in, both_or_none}
 use Rattle.memory_core.specs.Steps.{last_stamp, bare_entry}
 use Rattle.memory_core.specs.StandsFor.{StandsFor, HoldsFor}
@@ -83,6 +91,72 @@ claims-closed boot entries turn last units run free none =
       | inr differ ↦ claim-other boot entries turn last (Claim None units run) cpu differ
     ])
 
+-- ---- stamps rise
+
+-- the greatest stamp of entries, from a number on
+abbrev greatest : ℕ → List Entry → ℕ
+greatest from entries = fold (λ last (e : Entry). max last e.stamp) from entries
+
+greatest-from : (from : ℕ) (entries : List Entry) → from ≤ greatest from entries
+greatest-from from [] = omega arith
+greatest-from from (e ∷ es) = let more = greatest-from (max from e.stamp) es in omega (arith, more)
+
+-- no stamp is above the last one
+below-last : (from : ℕ) (entries : List Entry) → All (λ (e : Entry). e.stamp ≤ greatest from entries) entries
+below-last from [] = All-nil (λ (e : Entry). e.stamp ≤ from)
+below-last from (e ∷ es) =
+    let more = greatest-from (max from e.stamp) es in
+    All-cons (λ (x : Entry). x.stamp ≤ greatest (max from e.stamp) es) e es (omega (arith, more)) (below-last (max from e.stamp) es)
+
+-- an entry that a step appends comes behind them all
+rising-push : (entries : List Entry) (turn : Turn) (last : ℕ) (event : Event) → last ≡ last_stamp entries → Rising entries → Rising (entries ++ bare_entry turn last event ∷ [])
+rising-push entries turn last event is rises =
+    all_pairs_push ComesBefore entries (bare_entry turn last event) rises (λ k d inside. inl (let low = below-last 0 entries k d inside in omega (arith, low, is)))
+
+-- ---- the states of the pages of open runs
+
+-- a list is empty, or has a last item
+last-of : {A : Type 0} (xs : List A) → (xs ≡ []) ⊎ ((ys : List A) × (y : A) × (xs ≡ ys ++ y ∷ []))
+last-of [] = inl refl
+last-of (x ∷ xs) = elim (last-of xs) [
+  | inl none ↦ inr ([], x, ap (λ ys. x ∷ ys) none)
+  | inr found ↦ inr (x ∷ found.0, found.1, ap (λ ys. x ∷ ys) found.2)
+]
+
+-- the entries before the last one
+all-but-last : {A : Type 0} (P : A → Type 0) (xs : List A) (y : A) → All P (xs ++ y ∷ []) → All P xs
+all-but-last P xs y all = (All-pop P (xs ++ y ∷ []) xs (Some y) refl all).0
+
+-- one more entry, of which the claims of other processors and the states of their pages stay
+runs-keep-push : (boot : Boot) (entries : List Entry) (turn : Turn) (last : ℕ) (event : Event) → RunsKeep boot entries
+    → ((other : ℕ) (claim : Claimed) (page : ℕ) → other ≢ turn.cpu.0 → claim_of boot entries other ≡ Some claim
+    → in_range (pages_first boot claim.run) (pages_count boot claim.run) page ≡ true
+    → page_state boot (calls_of boot (entries ++ bare_entry turn last event ∷ [])) page ≡ page_state boot (calls_of boot entries) page)
+    → RunsKeep boot (entries ++ bare_entry turn last event ∷ [])
+runs-keep-push boot entries turn last event keep others cpu claim before rest page has split none inside =
+    elim (last-of rest) [
+      | inl empty ↦ ap (λ es. page_state boot (calls_of boot es) page) (sym (split ∙ ap (λ es. before ++ es) empty ∙ append-nil before))
+      | inr found ↦
+          (let e = bare_entry turn last event in
+          let two = same_from_push entries (before ++ found.0) e found.1 (split ∙ ap (λ es. before ++ es) found.2 ∙ sym (append_assoc before found.0 (found.1 ∷ []))) in
+          let N : List Entry → Type 0 = NoneOf cpu in
+          let none' : NoneOf cpu (found.0 ++ found.1 ∷ []) = subst N found.2 none in
+          let last_other : found.1.cpu.0 ≢ cpu = all-middle (λ (x : Entry). x.cpu.0 ≢ cpu) found.0 found.1 [] none' in
+          let differ : cpu ≢ turn.cpu.0 = λ same. last_other (ap (λ (x : Entry). x.cpu.0) (sym two.1) ∙ sym same) in
+          let was = sym (claim-other boot entries turn last event cpu differ) ∙ has in
+          keep cpu claim before found.0 page was two.0 (all-but-last (λ (x : Entry). x.cpu.0 ≢ cpu) found.0 found.1 none') inside
+          ∙ sym (others cpu claim page differ was inside))
+    ]
+
+pub steady-push : (boot : Boot) (entries entries' : List Entry) (turn : Turn) (last : ℕ) (event : Event) → entries' ≡ entries ++ bare_entry turn last event ∷ [] → last ≡ last_stamp entries → Steady boot entries
+    → ((other : ℕ) (claim : Claimed) (page : ℕ) → other ≢ turn.cpu.0 → claim_of boot entries other ≡ Some claim
+    → in_range (pages_first boot claim.run) (pages_count boot claim.run) page ≡ true
+    → page_state boot (calls_of boot (entries ++ bare_entry turn last event ∷ [])) page ≡ page_state boot (calls_of boot entries) page)
+    → Steady boot entries'
+steady-push boot entries entries' turn last event is last_is s others =
+    subst (Steady boot) (sym is)
+    (record { rising = rising-push entries turn last event last_is s.rising; runs_keep = runs-keep-push boot entries turn last event s.runs_keep others })
+
 -- ---- a step that changes entries and room alone
 
 pub stands-more : (boot : Boot) (entries entries' : Vec Entry Global) (last last' : ℕ) (table : Table) (bits : Option Bits) (claims : List (Option OpenClaim)) (pages kept room room' : ℕ) (turn : Turn) (event : Event)
@@ -114,4 +188,5 @@ stands-more boot entries entries' last last' table bits claims pages kept room r
       entry_room = omega (arith, long, fits, more, some, room_is);
       table_room = omega (arith, pieces, less);
       stamps = omega (arith, last_is, low_clock, low_last, few);
+      steady = steady-push boot entries.items entries'.items turn last event is s.last_is s.steady (λ other claim page differ has inside. ap (λ cs. page_state boot cs page) same-calls);
     }

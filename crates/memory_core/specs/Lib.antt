@@ -5,3 +5,5 @@ pub mod Booted
 pub mod OpenClaims
 pub mod StandsFor
 pub mod Answers
+pub mod UnderLock
+pub mod Away

@@ -16,6 +16,7 @@ use Rattle.page_module.specs.Tables.{Table, is_out}
 use Rattle.page_module.specs.declared.ticket.Ticket.{Ticket}
 use Rattle.event_core.specs.Table.{Bits}
 use Rattle.accepting_ranges.specs.Claims.{kept_of}
+use Rattle.memory_core.specs.Away.{Steady}
 use Rattle.memory_core.specs.Bitmaps.{bits_in, AreRunsFrom, SameBits}
 use Rattle.memory_core.specs.Booted.{IsBooted, MarksArePending, UnitsAreRam}
 use Rattle.memory_core.specs.Steps.{last_stamp, pages_of, IsInTable}
@@ -91,7 +92,8 @@ reports_of (Some claim) = claim.room + 1
 
 -- What a memory keeps stands for its entries: its page table, bitmap and claims are those of the
 -- definitions, and there is room for the reports of its open claims and for the next step. Stamps
--- stay below 2^65 until all claims are closed.
+-- stay below 2^65 until all claims are closed. The entries rise, and entries of other processors
+-- leave the pages of an open run.
 pub record StandsFor (boot : Boot) (entries : Vec Entry Global) (last : ℕ) (table : Table)
     (bits : Option Bits) (claims : List (Option OpenClaim)) (pages kept room : ℕ) : Type 0 where
   pub booted : IsBooted boot
@@ -107,6 +109,7 @@ pub record StandsFor (boot : Boot) (entries : Vec Entry Global) (last : ℕ) (ta
   pub entry_room : length entries.items + kept + room ≤ vec_capacity entries
   pub table_room : pieces_for pages room ≤ table.room
   pub stamps : max (2 ^ 64) last + kept < 2 ^ 65
+  pub steady : Steady boot entries.items
 
 -- the spare list of runs is empty, and has room for those of the next claim
 pub record IsSpare (runs : Vec Units Global) (room : ℕ) : Type 0 where

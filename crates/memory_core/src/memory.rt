@@ -10,12 +10,14 @@ ghost use Rattle.event_core.specs.Table.{Bits};
 ghost use Rattle.event_core.specs.Runs.{state_in as first_state_of};
 ghost use Rattle.event_core.specs.Calls.{calls_of, SoundCalls};
 ghost use Rattle.event_core.specs.Claims.{Claimed, claim_of};
+ghost use Rattle.event_core.specs.Locally.{Rising};
 ghost use Rattle.event_core.specs.MemoryRows.{page_state, report_event, some_unaccepted};
 ghost use Rattle.event_core.specs.Units.{bit_after, first_run, guarded_units, unit_pages};
 ghost use Rattle.page_module.specs.States.{state_in};
+ghost use Rattle.memory_core.specs.Away.{MayReport};
 ghost use Rattle.memory_core.specs.Bitmaps.{BitsAfter};
 ghost use Rattle.memory_core.specs.Value.{handed_to};
-ghost use Rattle.memory_core.specs.Steps.{last_stamp, unaccepted_count, claim_of_units, Appends, BringsTo, IsByteRange, MayBegin};
+ghost use Rattle.memory_core.specs.Steps.{last_stamp, unaccepted_count, claim_of_units, Appends, IsByteRange, MayBegin};
 
 use crate::claims::{OpenClaim, next_run_of, with_next};
 use crate::entries::append;
@@ -26,6 +28,7 @@ use crate::units::{
 };
 use accept_sizes::RunEnd;
 use accepting_ranges::Accepting;
+use claim_lock::Parted;
 use event_core::{Boot, Calls, Entries, Entry, Event, NoRoom, Turn};
 use guest_base::{CpuNo, Items, Unit, Units};
 use page_module::{PageTable, Span};
@@ -102,6 +105,16 @@ impl Model for Memory {
         StandsFor m.boot.value m.entries m.last m.table m.bits m.accepting
         m.unit_pages m.kept m.room
         × IsSpare m.spare m.room };
+}
+
+impl Parted for Memory {
+    ghost use Rattle.memory_core.specs.UnderLock.{fixed_of, part_of, moved_of};
+
+    ghost fixed = { fixed_of };
+
+    ghost part = { part_of };
+
+    ghost moved = { moved_of };
 }
 
 impl Memory {
@@ -275,17 +288,13 @@ impl Memory {
     }
 
     /// Reports the open run of the turn's processor: its pages, which come back in the span that is out for it, were brought to
-    /// their states by `calls`, with this end. The bits of the units without a pending page become clear.
+    /// their states by `calls`, with this end, from those in which they were handed out. What other processors did meanwhile
+    /// doesn't matter. The bits of the units without a pending page become clear.
     ///
     /// `Next` has the pages of the claim's next run. Where none is left, or the acceptance stopped, the claim closes: `Stopped`
     /// comes exactly where `end` is `Stopped`. The room that a report needs was taken with the claim.
     pub fn report(&mut self, turn: &mut Turn, span: Span, calls: Calls, end: RunEnd) -> Reported
-        requires out { IfSome (handed_to self.old turn.old.cpu.0) (λ h. h.ticket ≡ span.ticket) }
-        requires brings { (claim : Claimed)
-            × (claim_of self.old.boot self.old.entries turn.old.cpu.0 ≡ Some claim)
-            × BringsTo self.old.boot (calls_of self.old.boot self.old.entries)
-            claim.run span calls end }
-        requires clock { turn.old.clock ≤ max (2 ^ 64) (last_stamp self.old.entries) }
+        requires step { MayReport self.old turn.old span calls end }
         ensures reported { (claim : Claimed)
             → claim_of self.old.boot self.old.entries turn.old.cpu.0 ≡ Some claim
             → ReportedBy self.old self.new turn.old claim calls result }
@@ -343,9 +352,10 @@ impl Memory {
     }
 
     /// The page table and the entries. The pages of the open claims' runs are out, and every other page is in, in its state after
-    /// all entries.
+    /// all entries. The entries rise.
     pub fn into_parts(self) -> (PageTable, Entries)
         ensures entries { result.1 ≡ self.entries }
+        ensures rising { Rising self.entries }
         ensures table { GivesTable self result.0 }
     {
         let Memory {

@@ -1,17 +1,42 @@
-use Rattle.std.proofs.Common.{◌≡◌, ◌++◌, ◌<◌, Option, sym, ◌∙◌, ap, subst}
+use Rattle.std.proofs.Common.{◌≡◌, ◌++◌, ◌<◌, arith, Option, Some, sym, ◌∙◌, ap, subst}
 use Rattle.std.specs.Prelude.{IfSome}
+use Rattle.event_core.specs.declared.boot.Boot.{Boot}
 use Rattle.event_core.specs.declared.entry.Turn.{Turn}
 use Rattle.event_core.specs.declared.event.Event.TheVariants as event
 use Rattle.event_core.specs.MemoryRows.{report_event}
 use Rattle.page_module.specs.Spans.{Taken}
+use Rattle.accept_sizes.specs.Accepts.{Accepts}
 use Rattle.memory_core.specs.Answers.{ReportedBy}
 use Rattle.memory_core.specs.Steps.{Appends, pages_of}
+use Rattle.memory_core.specs.Value.{Handed, handed_to}
 use Rattle.guest_run.specs.Answered.{IsRunOf}
+use Rattle.memory_core.proofs.UnderLockLemmas.{brings-now}
 use Rattle.guest_run.proofs.ReadyLemmas.{claiming-halted, claiming-report, report-halted, report-added, report-whole, report-further, calls-reported, claim-has}
 use Rattle.guest_run.specs.declared.processor.Processor.{Processor}
 use Rattle.guest_run.specs.Replies.{FaultsTold}
 use Rattle.guest_run.proofs.FaultLemmas.{on_err, one_told, stopped_rose}
 use Rattle.guest_run.proofs.processor.Processor.report.Goals as goal
+
+pub report-requires : goal.report-requires
+report-requires g c =
+    let p = c.args.self.now in
+    let claiming = c.requires.claiming in
+    let small = c.turn-turn.ensures.clock in
+    let span = c.accept_span.new.span in
+    let A : Boot → Type 0 = λ b. Accepts b.hosts c.args.span span c.in_ok-calls.calls in
+    let made : Handed = record { ticket = c.args.span.ticket; room = claiming.out.room } in
+    let handed : handed_to p.memory c.turn-turn.result.cpu.0 ≡ Some made = ap (λ (t : Turn). handed_to p.memory t.cpu.0) c.turn-turn.ensures.turn ∙ claiming.out.handed in
+    let P : Option Handed → Type 0 = λ h. IfSome h (λ (x : Handed). x.ticket ≡ span.ticket) in
+    record {
+      step = record {
+        claim = claiming.claim;
+        claimed = claim-has p c.args.number c.args.span c.turn-turn.result claiming c.turn-turn.ensures.turn;
+        out = subst P (sym handed) (sym c.in_ok-calls.ensures.accepts.ticket);
+        brings = brings-now p.memory c.turn-turn.result.cpu.0 claiming.claim span c.in_ok-calls.calls c.in_ok-calls.end
+            (record { taken = c.args.span; has = claiming.out.has; accepts = subst A (sym claiming.same) c.in_ok-calls.ensures.accepts; stop = c.in_ok-calls.ensures.stop });
+        clock = omega (arith, small);
+      };
+    }
 
 pub run_of-requires-clause-whole : goal.run_of-requires-clause-whole
 run_of-requires-clause-whole g c =

@@ -48,41 +48,41 @@ pub run_pages-requires-clause-some : goal.run_pages-requires-clause-some
 run_pages-requires-clause-some c =
     let i = c.self.inside in
     let s = c.self.invariant.0 in
-    let r = reports-of i.boot.value i.entries.items i.accepting i.room c.args.self.now c.args.calls i.table c.put.new.self i.bits c.clear_run.new.bits c.args.turn.now.cpu.0 c.remove-claim.result c.requires.brings.0 c.args.span c.args.end c.clear_run.result c.self.view_is s.holds s.same_bits s.booted.some
-    c.requires.brings.1 c.remove-claim.ensures.taken c.requires.out c.requires.brings.2 c.clear_run.ensures.cleared c.put.ensures.states c.put.ensures.out in
-    let n = next-opens i.boot.value i.entries.items c.args.calls i.table c.put.new.self i.bits c.clear_run.new.bits i.accepting c.args.turn.now.cpu.0 c.remove-claim.result c.requires.brings.0 c.args.span c.args.end c.clear_run.result r c.next_run_of-next.result c.in-Some.run' c.next_run_of-next.ensures c.in-Some.is in
+    let r = reports-of i.boot.value i.entries.items i.accepting i.room c.args.self.now c.args.calls i.table c.put.new.self i.bits c.clear_run.new.bits c.args.turn.now.cpu.0 c.remove-claim.result c.requires.step.claim c.args.span c.args.end c.clear_run.result c.self.view_is s.holds s.same_bits s.booted.some
+    c.requires.step.claimed c.remove-claim.ensures.taken c.requires.step.out s.steady.runs_keep c.requires.step.brings c.clear_run.ensures.cleared c.put.ensures.states c.put.ensures.out in
+    let n = next-opens i.boot.value i.entries.items c.args.calls i.table c.put.new.self i.bits c.clear_run.new.bits i.accepting c.args.turn.now.cpu.0 c.remove-claim.result c.requires.step.claim c.args.span c.args.end c.clear_run.result r c.next_run_of-next.result c.in-Some.run' c.next_run_of-next.ensures c.in-Some.is in
     n.some
 
 pub run_pages-requires-clause-set : goal.run_pages-requires-clause-set
 run_pages-requires-clause-set c =
     let i = c.self.inside in
     let s = c.self.invariant.0 in
-    let r = reports-of i.boot.value i.entries.items i.accepting i.room c.args.self.now c.args.calls i.table c.put.new.self i.bits c.clear_run.new.bits c.args.turn.now.cpu.0 c.remove-claim.result c.requires.brings.0 c.args.span c.args.end c.clear_run.result c.self.view_is s.holds s.same_bits s.booted.some
-    c.requires.brings.1 c.remove-claim.ensures.taken c.requires.out c.requires.brings.2 c.clear_run.ensures.cleared c.put.ensures.states c.put.ensures.out in
-    let n = next-opens i.boot.value i.entries.items c.args.calls i.table c.put.new.self i.bits c.clear_run.new.bits i.accepting c.args.turn.now.cpu.0 c.remove-claim.result c.requires.brings.0 c.args.span c.args.end c.clear_run.result r c.next_run_of-next.result c.in-Some.run' c.next_run_of-next.ensures c.in-Some.is in
+    let r = reports-of i.boot.value i.entries.items i.accepting i.room c.args.self.now c.args.calls i.table c.put.new.self i.bits c.clear_run.new.bits c.args.turn.now.cpu.0 c.remove-claim.result c.requires.step.claim c.args.span c.args.end c.clear_run.result c.self.view_is s.holds s.same_bits s.booted.some
+    c.requires.step.claimed c.remove-claim.ensures.taken c.requires.step.out s.steady.runs_keep c.requires.step.brings c.clear_run.ensures.cleared c.put.ensures.states c.put.ensures.out in
+    let n = next-opens i.boot.value i.entries.items c.args.calls i.table c.put.new.self i.bits c.clear_run.new.bits i.accepting c.args.turn.now.cpu.0 c.remove-claim.result c.requires.step.claim c.args.span c.args.end c.clear_run.result r c.next_run_of-next.result c.in-Some.run' c.next_run_of-next.ensures c.in-Some.is in
     n.set
 
 pub take-span-requires-clause-here : goal.take-span-requires-clause-here
 take-span-requires-clause-here c page inside none =
     let i = c.self.inside in
     let s = c.self.invariant.0 in
-    let r = reports-of i.boot.value i.entries.items i.accepting i.room c.args.self.now c.args.calls i.table c.put.new.self i.bits c.clear_run.new.bits c.args.turn.now.cpu.0 c.remove-claim.result c.requires.brings.0 c.args.span c.args.end c.clear_run.result c.self.view_is s.holds s.same_bits s.booted.some
-    c.requires.brings.1 c.remove-claim.ensures.taken c.requires.out c.requires.brings.2 c.clear_run.ensures.cleared c.put.ensures.states c.put.ensures.out in
-    let n = next-opens i.boot.value i.entries.items c.args.calls i.table c.put.new.self i.bits c.clear_run.new.bits i.accepting c.args.turn.now.cpu.0 c.remove-claim.result c.requires.brings.0 c.args.span c.args.end c.clear_run.result r c.next_run_of-next.result c.in-Some.run' c.next_run_of-next.ensures c.in-Some.is in
-    let pages = run-pages-are i.boot.value c.clear_run.new.bits c.in-Some.run' c.run_pages.result (cleared-same i.boot.value i.bits c.clear_run.new.bits (pending_of c.args.span) c.requires.brings.0.run c.clear_run.result s.same_bits r.clears) c.run_pages.ensures in
+    let r = reports-of i.boot.value i.entries.items i.accepting i.room c.args.self.now c.args.calls i.table c.put.new.self i.bits c.clear_run.new.bits c.args.turn.now.cpu.0 c.remove-claim.result c.requires.step.claim c.args.span c.args.end c.clear_run.result c.self.view_is s.holds s.same_bits s.booted.some
+    c.requires.step.claimed c.remove-claim.ensures.taken c.requires.step.out s.steady.runs_keep c.requires.step.brings c.clear_run.ensures.cleared c.put.ensures.states c.put.ensures.out in
+    let n = next-opens i.boot.value i.entries.items c.args.calls i.table c.put.new.self i.bits c.clear_run.new.bits i.accepting c.args.turn.now.cpu.0 c.remove-claim.result c.requires.step.claim c.args.span c.args.end c.clear_run.result r c.next_run_of-next.result c.in-Some.run' c.next_run_of-next.ensures c.in-Some.is in
+    let pages = run-pages-are i.boot.value c.clear_run.new.bits c.in-Some.run' c.run_pages.result (cleared-same i.boot.value i.bits c.clear_run.new.bits (pending_of c.args.span) c.requires.step.claim.run c.clear_run.result s.same_bits r.clears) c.run_pages.ensures in
     let at : in_range (pages_first i.boot.value c.in-Some.run') (pages_count i.boot.value c.in-Some.run') page ≡ true = sym (ap (λ (p : Pages). in_range p.first p.count page) pages) ∙ inside in
-    next-here i.boot.value (calls_of i.boot.value i.entries.items) c.args.calls (claim_of i.boot.value i.entries.items) i.table c.put.new.self i.bits c.clear_run.new.bits (kept_of i.accepting) c.args.turn.now.cpu.0 c.remove-claim.result c.requires.brings.0 c.args.span c.args.end c.clear_run.result r c.in-Some.run' n.whole page at none
+    next-here i.boot.value (calls_of i.boot.value i.entries.items) c.args.calls (claim_of i.boot.value i.entries.items) i.table c.put.new.self i.bits c.clear_run.new.bits (kept_of i.accepting) c.args.turn.now.cpu.0 c.remove-claim.result c.requires.step.claim c.args.span c.args.end c.clear_run.result r c.in-Some.run' n.whole page at none
 
 pub take-span-requires-clause-room : goal.take-span-requires-clause-room
 take-span-requires-clause-room c =
     let i = c.self.inside in
     let s = c.self.invariant.0 in
-    let r = reports-of i.boot.value i.entries.items i.accepting i.room c.args.self.now c.args.calls i.table c.put.new.self i.bits c.clear_run.new.bits c.args.turn.now.cpu.0 c.remove-claim.result c.requires.brings.0 c.args.span c.args.end c.clear_run.result c.self.view_is s.holds s.same_bits s.booted.some
-    c.requires.brings.1 c.remove-claim.ensures.taken c.requires.out c.requires.brings.2 c.clear_run.ensures.cleared c.put.ensures.states c.put.ensures.out in
-    let n = next-opens i.boot.value i.entries.items c.args.calls i.table c.put.new.self i.bits c.clear_run.new.bits i.accepting c.args.turn.now.cpu.0 c.remove-claim.result c.requires.brings.0 c.args.span c.args.end c.clear_run.result r c.next_run_of-next.result c.in-Some.run' c.next_run_of-next.ensures c.in-Some.is in
-    let pages = run-pages-are i.boot.value c.clear_run.new.bits c.in-Some.run' c.run_pages.result (cleared-same i.boot.value i.bits c.clear_run.new.bits (pending_of c.args.span) c.requires.brings.0.run c.clear_run.result s.same_bits r.clears) c.run_pages.ensures in
+    let r = reports-of i.boot.value i.entries.items i.accepting i.room c.args.self.now c.args.calls i.table c.put.new.self i.bits c.clear_run.new.bits c.args.turn.now.cpu.0 c.remove-claim.result c.requires.step.claim c.args.span c.args.end c.clear_run.result c.self.view_is s.holds s.same_bits s.booted.some
+    c.requires.step.claimed c.remove-claim.ensures.taken c.requires.step.out s.steady.runs_keep c.requires.step.brings c.clear_run.ensures.cleared c.put.ensures.states c.put.ensures.out in
+    let n = next-opens i.boot.value i.entries.items c.args.calls i.table c.put.new.self i.bits c.clear_run.new.bits i.accepting c.args.turn.now.cpu.0 c.remove-claim.result c.requires.step.claim c.args.span c.args.end c.clear_run.result r c.next_run_of-next.result c.in-Some.run' c.next_run_of-next.ensures c.in-Some.is in
+    let pages = run-pages-are i.boot.value c.clear_run.new.bits c.in-Some.run' c.run_pages.result (cleared-same i.boot.value i.bits c.clear_run.new.bits (pending_of c.args.span) c.requires.step.claim.run c.clear_run.result s.same_bits r.clears) c.run_pages.ensures in
     let o = c.remove-claim.result in
-    let mine = opened i.boot.value (calls_of i.boot.value i.entries.items) c.args.calls (claim_of i.boot.value i.entries.items) i.table c.put.new.self i.bits c.clear_run.new.bits (kept_of i.accepting) c.args.turn.now.cpu.0 c.remove-claim.result c.requires.brings.0 c.args.span c.args.end c.clear_run.result r in
+    let mine = opened i.boot.value (calls_of i.boot.value i.entries.items) c.args.calls (claim_of i.boot.value i.entries.items) i.table c.put.new.self i.bits c.clear_run.new.bits (kept_of i.accepting) c.args.turn.now.cpu.0 c.remove-claim.result c.requires.step.claim c.args.span c.args.end c.clear_run.result r in
     let has : pieces_for (unit_pages i.boot.value) o.room ≤ c.put.new.self.room =
     (let room = mine.room in let put = c.put.ensures.room in let same : o.ticket.room ≡ c.args.span.ticket.room = ap (λ (t : Ticket). t.room) r.ticket in omega (arith, room, same, put)) in
     room-take (unit_pages i.boot.value) o.room c.in-Some.run'.count (run_count (state_in c.put.new.self.runs) c.run_pages.result) c.put.new.self.room n.some n.fits (runs-few i.boot.value c.in-Some.run' c.put.new.self.runs c.run_pages.result pages) has
@@ -91,18 +91,18 @@ pub with_next-claim-requires-clause-room : goal.with_next-claim-requires-clause-
 with_next-claim-requires-clause-room c =
     let i = c.self.inside in
     let s = c.self.invariant.0 in
-    let r = reports-of i.boot.value i.entries.items i.accepting i.room c.args.self.now c.args.calls i.table c.put.new.self i.bits c.clear_run.new.bits c.args.turn.now.cpu.0 c.remove-claim.result c.requires.brings.0 c.args.span c.args.end c.clear_run.result c.self.view_is s.holds s.same_bits s.booted.some
-    c.requires.brings.1 c.remove-claim.ensures.taken c.requires.out c.requires.brings.2 c.clear_run.ensures.cleared c.put.ensures.states c.put.ensures.out in
-    let n = next-opens i.boot.value i.entries.items c.args.calls i.table c.put.new.self i.bits c.clear_run.new.bits i.accepting c.args.turn.now.cpu.0 c.remove-claim.result c.requires.brings.0 c.args.span c.args.end c.clear_run.result r c.next_run_of-next.result c.in-Some.run' c.next_run_of-next.ensures c.in-Some.is in
+    let r = reports-of i.boot.value i.entries.items i.accepting i.room c.args.self.now c.args.calls i.table c.put.new.self i.bits c.clear_run.new.bits c.args.turn.now.cpu.0 c.remove-claim.result c.requires.step.claim c.args.span c.args.end c.clear_run.result c.self.view_is s.holds s.same_bits s.booted.some
+    c.requires.step.claimed c.remove-claim.ensures.taken c.requires.step.out s.steady.runs_keep c.requires.step.brings c.clear_run.ensures.cleared c.put.ensures.states c.put.ensures.out in
+    let n = next-opens i.boot.value i.entries.items c.args.calls i.table c.put.new.self i.bits c.clear_run.new.bits i.accepting c.args.turn.now.cpu.0 c.remove-claim.result c.requires.step.claim c.args.span c.args.end c.clear_run.result r c.next_run_of-next.result c.in-Some.run' c.next_run_of-next.ensures c.in-Some.is in
     n.fits
 
 pub overflow_sub-self : goal.overflow_sub-self
 overflow_sub-self c =
     let i = c.self.inside in
     let s = c.self.invariant.0 in
-    let r = reports-of i.boot.value i.entries.items i.accepting i.room c.args.self.now c.args.calls i.table c.put.new.self i.bits c.clear_run.new.bits c.args.turn.now.cpu.0 c.remove-claim.result c.requires.brings.0 c.args.span c.args.end c.clear_run.result c.self.view_is s.holds s.same_bits s.booted.some
-    c.requires.brings.1 c.remove-claim.ensures.taken c.requires.out c.requires.brings.2 c.clear_run.ensures.cleared c.put.ensures.states c.put.ensures.out in
-    let n = next-opens i.boot.value i.entries.items c.args.calls i.table c.put.new.self i.bits c.clear_run.new.bits i.accepting c.args.turn.now.cpu.0 c.remove-claim.result c.requires.brings.0 c.args.span c.args.end c.clear_run.result r c.next_run_of-next.result c.in-Some.run' c.next_run_of-next.ensures c.in-Some.is in
+    let r = reports-of i.boot.value i.entries.items i.accepting i.room c.args.self.now c.args.calls i.table c.put.new.self i.bits c.clear_run.new.bits c.args.turn.now.cpu.0 c.remove-claim.result c.requires.step.claim c.args.span c.args.end c.clear_run.result c.self.view_is s.holds s.same_bits s.booted.some
+    c.requires.step.claimed c.remove-claim.ensures.taken c.requires.step.out s.steady.runs_keep c.requires.step.brings c.clear_run.ensures.cleared c.put.ensures.states c.put.ensures.out in
+    let n = next-opens i.boot.value i.entries.items c.args.calls i.table c.put.new.self i.bits c.clear_run.new.bits i.accepting c.args.turn.now.cpu.0 c.remove-claim.result c.requires.step.claim c.args.span c.args.end c.clear_run.result r c.next_run_of-next.result c.in-Some.run' c.next_run_of-next.ensures c.in-Some.is in
     let covers = kept-covers i.accepting c.args.turn.now.cpu.0 i.kept c.remove-claim.result s.reports c.remove-claim.ensures.taken in
     omega (arith, n.fits, covers)
 
@@ -124,20 +124,20 @@ pub invariant_of-self : goal.invariant_of-self
 invariant_of-self c =
     let i = c.self.inside in
     let s = c.self.invariant.0 in
-    let r = reports-of i.boot.value i.entries.items i.accepting i.room c.args.self.now c.args.calls i.table c.put.new.self i.bits c.clear_run.new.bits c.args.turn.now.cpu.0 c.remove-claim.result c.requires.brings.0 c.args.span c.args.end c.clear_run.result c.self.view_is s.holds s.same_bits s.booted.some
-    c.requires.brings.1 c.remove-claim.ensures.taken c.requires.out c.requires.brings.2 c.clear_run.ensures.cleared c.put.ensures.states c.put.ensures.out in
-    let n = next-opens i.boot.value i.entries.items c.args.calls i.table c.put.new.self i.bits c.clear_run.new.bits i.accepting c.args.turn.now.cpu.0 c.remove-claim.result c.requires.brings.0 c.args.span c.args.end c.clear_run.result r c.next_run_of-next.result c.in-Some.run' c.next_run_of-next.ensures c.in-Some.is in
-    let entries = entries-are i.boot.value i.entries.items c.args.calls i.table c.put.new.self i.bits c.clear_run.new.bits i.accepting c.args.turn.now.cpu.0 c.remove-claim.result c.requires.brings.0 c.args.span c.args.end c.clear_run.result r c.append.new.entries.items c.args.turn.now i.last c.stopped_page.result c.next_run_of-next.result c.stopped_page.ensures c.next_run_of-next.ensures c.append.ensures.entries in
-    let pages = run-pages-are i.boot.value c.clear_run.new.bits c.in-Some.run' c.run_pages.result (cleared-same i.boot.value i.bits c.clear_run.new.bits (pending_of c.args.span) c.requires.brings.0.run c.clear_run.result s.same_bits r.clears) c.run_pages.ensures in
+    let r = reports-of i.boot.value i.entries.items i.accepting i.room c.args.self.now c.args.calls i.table c.put.new.self i.bits c.clear_run.new.bits c.args.turn.now.cpu.0 c.remove-claim.result c.requires.step.claim c.args.span c.args.end c.clear_run.result c.self.view_is s.holds s.same_bits s.booted.some
+    c.requires.step.claimed c.remove-claim.ensures.taken c.requires.step.out s.steady.runs_keep c.requires.step.brings c.clear_run.ensures.cleared c.put.ensures.states c.put.ensures.out in
+    let n = next-opens i.boot.value i.entries.items c.args.calls i.table c.put.new.self i.bits c.clear_run.new.bits i.accepting c.args.turn.now.cpu.0 c.remove-claim.result c.requires.step.claim c.args.span c.args.end c.clear_run.result r c.next_run_of-next.result c.in-Some.run' c.next_run_of-next.ensures c.in-Some.is in
+    let entries = entries-are i.boot.value i.entries.items c.args.calls i.table c.put.new.self i.bits c.clear_run.new.bits i.accepting c.args.turn.now.cpu.0 c.remove-claim.result c.requires.step.claim c.args.span c.args.end c.clear_run.result r c.append.new.entries.items c.args.turn.now i.last c.stopped_page.result c.next_run_of-next.result c.stopped_page.ensures c.next_run_of-next.ensures c.append.ensures.entries in
+    let pages = run-pages-are i.boot.value c.clear_run.new.bits c.in-Some.run' c.run_pages.result (cleared-same i.boot.value i.bits c.clear_run.new.bits (pending_of c.args.span) c.requires.step.claim.run c.clear_run.result s.same_bits r.clears) c.run_pages.ensures in
     let made : OpenClaim = record c.remove-claim.result { run = c.in-Some.run'; opened = c.remove-claim.result.opened + 1; cleared = c.remove-claim.result.cleared + c.clear_run.result; ticket = c.take-span.result.ticket; room = c.remove-claim.result.room - c.in-Some.run'.count } in
     let set = kept-next i.accepting c.remove-claim.new.self c.add.new.self c.args.turn.now.cpu.0 c.append.new.turn.cpu.0 c.with_next-claim.result made c.remove-claim.ensures.rest c.add.ensures (ap (λ (t : Turn). t.cpu.0) c.append.ensures.turn)
     (c.with_next-claim.ensures ∙ ap (λ t. let k : OpenClaim = record made { ticket = t } in k) c.ticket.ensures) in
     let o = c.remove-claim.result in
-    let mine = opened i.boot.value (calls_of i.boot.value i.entries.items) c.args.calls (claim_of i.boot.value i.entries.items) i.table c.put.new.self i.bits c.clear_run.new.bits (kept_of i.accepting) c.args.turn.now.cpu.0 c.remove-claim.result c.requires.brings.0 c.args.span c.args.end c.clear_run.result r in
-    let clock = clock-kept i.boot.value i.entries.items i.accepting i.room c.args.turn.now.clock i.last c.args.self.now c.self.view_is s.last_is c.requires.clock in
+    let mine = opened i.boot.value (calls_of i.boot.value i.entries.items) c.args.calls (claim_of i.boot.value i.entries.items) i.table c.put.new.self i.bits c.clear_run.new.bits (kept_of i.accepting) c.args.turn.now.cpu.0 c.remove-claim.result c.requires.step.claim c.args.span c.args.end c.clear_run.result r in
+    let clock = clock-kept i.boot.value i.entries.items i.accepting i.room c.args.turn.now.clock i.last c.args.self.now c.self.view_is s.last_is c.requires.step.clock in
     let same : o.ticket.room ≡ c.args.span.ticket.room = ap (λ (t : Ticket). t.room) r.ticket in
     let put = c.put.ensures.room in (
-      stands-next i.boot.value i.entries c.append.new.entries i.last c.append.new.last i.table c.put.new.self c.take-span.new.self i.bits c.clear_run.new.bits i.accepting c.add.new.self i.unit_pages i.kept _ i.room c.args.turn.now c.args.calls o made c.requires.brings.0 c.args.span c.take-span.result c.args.end c.clear_run.result c.in-Some.run' c.run_pages.result
+      stands-next i.boot.value i.entries c.append.new.entries i.last c.append.new.last i.table c.put.new.self c.take-span.new.self i.bits c.clear_run.new.bits i.accepting c.add.new.self i.unit_pages i.kept _ i.room c.args.turn.now c.args.calls o made c.requires.step.claim c.args.span c.take-span.result c.args.end c.clear_run.result c.in-Some.run' c.run_pages.result
           s r entries c.append.ensures.capacity c.append.ensures.last clock n.stop n.next n.some n.fits refl
           (let P : Units → Type 0 = λ u. c.clear_run.result ≤ u.count in subst P mine.run c.clear_run.ensures.few) (omega (arith, same, put)) pages c.take-span.ensures.pages c.take-span.ensures.rest c.take-span.ensures.out c.take-span.ensures.room set refl,
       record { empty = c.self.invariant.1.empty; enough = omega arith },
@@ -147,12 +147,12 @@ pub invariant_of-self-in-None-1 : goal.invariant_of-self-in-None-1
 invariant_of-self-in-None-1 c =
     let i = c.self.inside in
     let s = c.self.invariant.0 in
-    let r = reports-of i.boot.value i.entries.items i.accepting i.room c.args.self.now c.args.calls i.table c.put.new.self i.bits c.clear_run.new.bits c.args.turn.now.cpu.0 c.remove-claim.result c.requires.brings.0 c.args.span c.args.end c.clear_run.result c.self.view_is s.holds s.same_bits s.booted.some
-    c.requires.brings.1 c.remove-claim.ensures.taken c.requires.out c.requires.brings.2 c.clear_run.ensures.cleared c.put.ensures.states c.put.ensures.out in
-    let entries = entries-are i.boot.value i.entries.items c.args.calls i.table c.put.new.self i.bits c.clear_run.new.bits i.accepting c.args.turn.now.cpu.0 c.remove-claim.result c.requires.brings.0 c.args.span c.args.end c.clear_run.result r c.append.new.entries.items c.args.turn.now i.last c.stopped_page.result c.next_run_of-next.result c.stopped_page.ensures c.next_run_of-next.ensures c.append.ensures.entries in
-    let next : next_run i.boot.value c.requires.brings.0 (stop_of c.args.calls) ≡ None = sym (c.next_run_of-next.ensures ∙ next-found i.boot.value i.entries.items c.args.calls i.table c.put.new.self i.bits c.clear_run.new.bits i.accepting c.args.turn.now.cpu.0 c.remove-claim.result c.requires.brings.0 c.args.span c.args.end c.clear_run.result r) ∙ c.in-None.is in
-    let clock = clock-kept i.boot.value i.entries.items i.accepting i.room c.args.turn.now.clock i.last c.args.self.now c.self.view_is s.last_is c.requires.clock in (
-      stands-closed i.boot.value i.entries c.append.new.entries i.last c.append.new.last i.table c.put.new.self i.bits c.clear_run.new.bits i.accepting c.remove-claim.new.self i.unit_pages i.kept _ i.room c.args.turn.now c.args.calls c.remove-claim.result c.requires.brings.0 c.args.span c.args.end c.clear_run.result
+    let r = reports-of i.boot.value i.entries.items i.accepting i.room c.args.self.now c.args.calls i.table c.put.new.self i.bits c.clear_run.new.bits c.args.turn.now.cpu.0 c.remove-claim.result c.requires.step.claim c.args.span c.args.end c.clear_run.result c.self.view_is s.holds s.same_bits s.booted.some
+    c.requires.step.claimed c.remove-claim.ensures.taken c.requires.step.out s.steady.runs_keep c.requires.step.brings c.clear_run.ensures.cleared c.put.ensures.states c.put.ensures.out in
+    let entries = entries-are i.boot.value i.entries.items c.args.calls i.table c.put.new.self i.bits c.clear_run.new.bits i.accepting c.args.turn.now.cpu.0 c.remove-claim.result c.requires.step.claim c.args.span c.args.end c.clear_run.result r c.append.new.entries.items c.args.turn.now i.last c.stopped_page.result c.next_run_of-next.result c.stopped_page.ensures c.next_run_of-next.ensures c.append.ensures.entries in
+    let next : next_run i.boot.value c.requires.step.claim (stop_of c.args.calls) ≡ None = sym (c.next_run_of-next.ensures ∙ next-found i.boot.value i.entries.items c.args.calls i.table c.put.new.self i.bits c.clear_run.new.bits i.accepting c.args.turn.now.cpu.0 c.remove-claim.result c.requires.step.claim c.args.span c.args.end c.clear_run.result r) ∙ c.in-None.is in
+    let clock = clock-kept i.boot.value i.entries.items i.accepting i.room c.args.turn.now.clock i.last c.args.self.now c.self.view_is s.last_is c.requires.step.clock in (
+      stands-closed i.boot.value i.entries c.append.new.entries i.last c.append.new.last i.table c.put.new.self i.bits c.clear_run.new.bits i.accepting c.remove-claim.new.self i.unit_pages i.kept _ i.room c.args.turn.now c.args.calls c.remove-claim.result c.requires.step.claim c.args.span c.args.end c.clear_run.result
           s r entries c.append.ensures.capacity c.append.ensures.last clock next c.remove-claim.ensures.rest refl c.put.ensures.room_kept,
       c.self.invariant.1,
     )
@@ -161,84 +161,84 @@ pub returns-in-Some-clause-reported : goal.returns-in-Some-clause-reported
 returns-in-Some-clause-reported c claim' has =
     let i = c.self.inside in
     let s = c.self.invariant.0 in
-    let r = reports-of i.boot.value i.entries.items i.accepting i.room c.args.self.now c.args.calls i.table c.put.new.self i.bits c.clear_run.new.bits c.args.turn.now.cpu.0 c.remove-claim.result c.requires.brings.0 c.args.span c.args.end c.clear_run.result c.self.view_is s.holds s.same_bits s.booted.some
-    c.requires.brings.1 c.remove-claim.ensures.taken c.requires.out c.requires.brings.2 c.clear_run.ensures.cleared c.put.ensures.states c.put.ensures.out in
-    let n = next-opens i.boot.value i.entries.items c.args.calls i.table c.put.new.self i.bits c.clear_run.new.bits i.accepting c.args.turn.now.cpu.0 c.remove-claim.result c.requires.brings.0 c.args.span c.args.end c.clear_run.result r c.next_run_of-next.result c.in-Some.run' c.next_run_of-next.ensures c.in-Some.is in
-    let entries = entries-are i.boot.value i.entries.items c.args.calls i.table c.put.new.self i.bits c.clear_run.new.bits i.accepting c.args.turn.now.cpu.0 c.remove-claim.result c.requires.brings.0 c.args.span c.args.end c.clear_run.result r c.append.new.entries.items c.args.turn.now i.last c.stopped_page.result c.next_run_of-next.result c.stopped_page.ensures c.next_run_of-next.ensures c.append.ensures.entries in
-    let pages = run-pages-are i.boot.value c.clear_run.new.bits c.in-Some.run' c.run_pages.result (cleared-same i.boot.value i.bits c.clear_run.new.bits (pending_of c.args.span) c.requires.brings.0.run c.clear_run.result s.same_bits r.clears) c.run_pages.ensures in
+    let r = reports-of i.boot.value i.entries.items i.accepting i.room c.args.self.now c.args.calls i.table c.put.new.self i.bits c.clear_run.new.bits c.args.turn.now.cpu.0 c.remove-claim.result c.requires.step.claim c.args.span c.args.end c.clear_run.result c.self.view_is s.holds s.same_bits s.booted.some
+    c.requires.step.claimed c.remove-claim.ensures.taken c.requires.step.out s.steady.runs_keep c.requires.step.brings c.clear_run.ensures.cleared c.put.ensures.states c.put.ensures.out in
+    let n = next-opens i.boot.value i.entries.items c.args.calls i.table c.put.new.self i.bits c.clear_run.new.bits i.accepting c.args.turn.now.cpu.0 c.remove-claim.result c.requires.step.claim c.args.span c.args.end c.clear_run.result r c.next_run_of-next.result c.in-Some.run' c.next_run_of-next.ensures c.in-Some.is in
+    let entries = entries-are i.boot.value i.entries.items c.args.calls i.table c.put.new.self i.bits c.clear_run.new.bits i.accepting c.args.turn.now.cpu.0 c.remove-claim.result c.requires.step.claim c.args.span c.args.end c.clear_run.result r c.append.new.entries.items c.args.turn.now i.last c.stopped_page.result c.next_run_of-next.result c.stopped_page.ensures c.next_run_of-next.ensures c.append.ensures.entries in
+    let pages = run-pages-are i.boot.value c.clear_run.new.bits c.in-Some.run' c.run_pages.result (cleared-same i.boot.value i.bits c.clear_run.new.bits (pending_of c.args.span) c.requires.step.claim.run c.clear_run.result s.same_bits r.clears) c.run_pages.ensures in
     let made : OpenClaim = record c.remove-claim.result { run = c.in-Some.run'; opened = c.remove-claim.result.opened + 1; cleared = c.remove-claim.result.cleared + c.clear_run.result; ticket = c.take-span.result.ticket; room = c.remove-claim.result.room - c.in-Some.run'.count } in
     let set = kept-next i.accepting c.remove-claim.new.self c.add.new.self c.args.turn.now.cpu.0 c.append.new.turn.cpu.0 c.with_next-claim.result made c.remove-claim.ensures.rest c.add.ensures (ap (λ (t : Turn). t.cpu.0) c.append.ensures.turn)
     (c.with_next-claim.ensures ∙ ap (λ t. let k : OpenClaim = record made { ticket = t } in k) c.ticket.ensures) in
-    let same = same-claim (claim_of c.args.self.now.boot c.args.self.now.entries c.args.turn.now.cpu.0) c.requires.brings.0 claim' c.requires.brings.1 has in
+    let same = same-claim (claim_of c.args.self.now.boot c.args.self.now.entries c.args.turn.now.cpu.0) c.requires.step.claim claim' c.requires.step.claimed has in
     let span = c.take-span.result in
-    let states = next-has i.boot.value (calls_of i.boot.value i.entries.items) c.args.calls (claim_of i.boot.value i.entries.items) i.table c.put.new.self i.bits c.clear_run.new.bits (kept_of i.accepting) c.args.turn.now.cpu.0 c.remove-claim.result c.requires.brings.0 c.args.span c.args.end c.clear_run.result r c.in-Some.run' c.run_pages.result span n.whole pages c.take-span.ensures.pages c.take-span.ensures.states in
+    let states = next-has i.boot.value (calls_of i.boot.value i.entries.items) c.args.calls (claim_of i.boot.value i.entries.items) i.table c.put.new.self i.bits c.clear_run.new.bits (kept_of i.accepting) c.args.turn.now.cpu.0 c.remove-claim.result c.requires.step.claim c.args.span c.args.end c.clear_run.result r c.in-Some.run' c.run_pages.result span n.whole pages c.take-span.ensures.pages c.take-span.ensures.states in
     let P : MemoryValue → Type 0 = λ m. GoesOn m (seen i.boot.value c.append.new.entries.items c.add.new.self 0) c.args.turn.now.cpu.0 claim' c.args.calls span in
     let Q : Claimed → Type 0 = λ x. GoesOn (seen i.boot.value i.entries.items i.accepting i.room) (seen i.boot.value c.append.new.entries.items c.add.new.self 0) c.args.turn.now.cpu.0 x c.args.calls span in
     subst P c.self.view_is
     (subst Q same
-    (goes-on-of i.boot.value i.entries.items c.append.new.entries.items i.accepting c.add.new.self i.room c.args.turn.now.cpu.0 c.requires.brings.0 c.args.calls c.in-Some.run' span c.remove-claim.result made (calls_of i.boot.value i.entries.items ++ c.args.calls)
+    (goes-on-of i.boot.value i.entries.items c.append.new.entries.items i.accepting c.add.new.self i.room c.args.turn.now.cpu.0 c.requires.step.claim c.args.calls c.in-Some.run' span c.remove-claim.result made (calls_of i.boot.value i.entries.items ++ c.args.calls)
     n.next c.remove-claim.ensures.taken (let fits = n.fits in omega (arith, fits)) (kept_of-inside i.accepting c.args.turn.now.cpu.0 c.remove-claim.result c.remove-claim.ensures.taken) set refl
-    (calls-after i.boot.value i.entries.items c.append.new.entries.items c.args.turn.now i.last c.requires.brings.0 c.args.calls entries) states))
+    (calls-after i.boot.value i.entries.items c.append.new.entries.items c.args.turn.now i.last c.requires.step.claim c.args.calls entries) states))
 
 pub returns-in-Some-clause-appends : goal.returns-in-Some-clause-appends
 returns-in-Some-clause-appends c claim' has =
     let i = c.self.inside in
     let s = c.self.invariant.0 in
-    let r = reports-of i.boot.value i.entries.items i.accepting i.room c.args.self.now c.args.calls i.table c.put.new.self i.bits c.clear_run.new.bits c.args.turn.now.cpu.0 c.remove-claim.result c.requires.brings.0 c.args.span c.args.end c.clear_run.result c.self.view_is s.holds s.same_bits s.booted.some
-    c.requires.brings.1 c.remove-claim.ensures.taken c.requires.out c.requires.brings.2 c.clear_run.ensures.cleared c.put.ensures.states c.put.ensures.out in
-    let entries = entries-are i.boot.value i.entries.items c.args.calls i.table c.put.new.self i.bits c.clear_run.new.bits i.accepting c.args.turn.now.cpu.0 c.remove-claim.result c.requires.brings.0 c.args.span c.args.end c.clear_run.result r c.append.new.entries.items c.args.turn.now i.last c.stopped_page.result c.next_run_of-next.result c.stopped_page.ensures c.next_run_of-next.ensures c.append.ensures.entries in
-    appends-reported i.boot.value i.entries.items i.accepting i.room c.args.self.now (seen i.boot.value c.append.new.entries.items c.add.new.self 0) c.args.turn.now c.append.new.turn i.last c.requires.brings.0 claim' c.args.calls c.self.view_is c.requires.brings.1 has refl entries s.last_is c.append.ensures.turn
+    let r = reports-of i.boot.value i.entries.items i.accepting i.room c.args.self.now c.args.calls i.table c.put.new.self i.bits c.clear_run.new.bits c.args.turn.now.cpu.0 c.remove-claim.result c.requires.step.claim c.args.span c.args.end c.clear_run.result c.self.view_is s.holds s.same_bits s.booted.some
+    c.requires.step.claimed c.remove-claim.ensures.taken c.requires.step.out s.steady.runs_keep c.requires.step.brings c.clear_run.ensures.cleared c.put.ensures.states c.put.ensures.out in
+    let entries = entries-are i.boot.value i.entries.items c.args.calls i.table c.put.new.self i.bits c.clear_run.new.bits i.accepting c.args.turn.now.cpu.0 c.remove-claim.result c.requires.step.claim c.args.span c.args.end c.clear_run.result r c.append.new.entries.items c.args.turn.now i.last c.stopped_page.result c.next_run_of-next.result c.stopped_page.ensures c.next_run_of-next.ensures c.append.ensures.entries in
+    appends-reported i.boot.value i.entries.items i.accepting i.room c.args.self.now (seen i.boot.value c.append.new.entries.items c.add.new.self 0) c.args.turn.now c.append.new.turn i.last c.requires.step.claim claim' c.args.calls c.self.view_is c.requires.step.claimed has refl entries s.last_is c.append.ensures.turn
 
 pub returns-in-Some-clause-others : goal.returns-in-Some-clause-others
 returns-in-Some-clause-others c =
     let i = c.self.inside in
     let s = c.self.invariant.0 in
-    let r = reports-of i.boot.value i.entries.items i.accepting i.room c.args.self.now c.args.calls i.table c.put.new.self i.bits c.clear_run.new.bits c.args.turn.now.cpu.0 c.remove-claim.result c.requires.brings.0 c.args.span c.args.end c.clear_run.result c.self.view_is s.holds s.same_bits s.booted.some
-    c.requires.brings.1 c.remove-claim.ensures.taken c.requires.out c.requires.brings.2 c.clear_run.ensures.cleared c.put.ensures.states c.put.ensures.out in
-    let entries = entries-are i.boot.value i.entries.items c.args.calls i.table c.put.new.self i.bits c.clear_run.new.bits i.accepting c.args.turn.now.cpu.0 c.remove-claim.result c.requires.brings.0 c.args.span c.args.end c.clear_run.result r c.append.new.entries.items c.args.turn.now i.last c.stopped_page.result c.next_run_of-next.result c.stopped_page.ensures c.next_run_of-next.ensures c.append.ensures.entries in
+    let r = reports-of i.boot.value i.entries.items i.accepting i.room c.args.self.now c.args.calls i.table c.put.new.self i.bits c.clear_run.new.bits c.args.turn.now.cpu.0 c.remove-claim.result c.requires.step.claim c.args.span c.args.end c.clear_run.result c.self.view_is s.holds s.same_bits s.booted.some
+    c.requires.step.claimed c.remove-claim.ensures.taken c.requires.step.out s.steady.runs_keep c.requires.step.brings c.clear_run.ensures.cleared c.put.ensures.states c.put.ensures.out in
+    let entries = entries-are i.boot.value i.entries.items c.args.calls i.table c.put.new.self i.bits c.clear_run.new.bits i.accepting c.args.turn.now.cpu.0 c.remove-claim.result c.requires.step.claim c.args.span c.args.end c.clear_run.result r c.append.new.entries.items c.args.turn.now i.last c.stopped_page.result c.next_run_of-next.result c.stopped_page.ensures c.next_run_of-next.ensures c.append.ensures.entries in
     let made : OpenClaim = record c.remove-claim.result { run = c.in-Some.run'; opened = c.remove-claim.result.opened + 1; cleared = c.remove-claim.result.cleared + c.clear_run.result; ticket = c.take-span.result.ticket; room = c.remove-claim.result.room - c.in-Some.run'.count } in
     let set = kept-next i.accepting c.remove-claim.new.self c.add.new.self c.args.turn.now.cpu.0 c.append.new.turn.cpu.0 c.with_next-claim.result made c.remove-claim.ensures.rest c.add.ensures (ap (λ (t : Turn). t.cpu.0) c.append.ensures.turn)
     (c.with_next-claim.ensures ∙ ap (λ t. let k : OpenClaim = record made { ticket = t } in k) c.ticket.ensures) in
     let P : MemoryValue → Type 0 = λ m. OthersKeep m (seen i.boot.value c.append.new.entries.items c.add.new.self 0) c.args.turn.now.cpu.0 in
     subst P c.self.view_is
-    (others-reported i.boot.value i.entries.items c.args.calls i.table c.put.new.self i.bits c.clear_run.new.bits i.accepting c.args.turn.now.cpu.0 c.remove-claim.result c.requires.brings.0 c.args.span c.args.end c.clear_run.result r c.append.new.entries.items c.add.new.self i.room 0 (Some made) (calls-after i.boot.value i.entries.items c.append.new.entries.items c.args.turn.now i.last c.requires.brings.0 c.args.calls entries) set)
+    (others-reported i.boot.value i.entries.items c.args.calls i.table c.put.new.self i.bits c.clear_run.new.bits i.accepting c.args.turn.now.cpu.0 c.remove-claim.result c.requires.step.claim c.args.span c.args.end c.clear_run.result r c.append.new.entries.items c.add.new.self i.room 0 (Some made) (calls-after i.boot.value i.entries.items c.append.new.entries.items c.args.turn.now i.last c.requires.step.claim c.args.calls entries) set)
 
 pub returns-in-None-clause-reported : goal.returns-in-None-clause-reported
 returns-in-None-clause-reported c claim' has =
     let i = c.self.inside in
     let s = c.self.invariant.0 in
-    let r = reports-of i.boot.value i.entries.items i.accepting i.room c.args.self.now c.args.calls i.table c.put.new.self i.bits c.clear_run.new.bits c.args.turn.now.cpu.0 c.remove-claim.result c.requires.brings.0 c.args.span c.args.end c.clear_run.result c.self.view_is s.holds s.same_bits s.booted.some
-    c.requires.brings.1 c.remove-claim.ensures.taken c.requires.out c.requires.brings.2 c.clear_run.ensures.cleared c.put.ensures.states c.put.ensures.out in
-    let next : next_run i.boot.value c.requires.brings.0 (stop_of c.args.calls) ≡ None = sym (c.next_run_of-next.ensures ∙ next-found i.boot.value i.entries.items c.args.calls i.table c.put.new.self i.bits c.clear_run.new.bits i.accepting c.args.turn.now.cpu.0 c.remove-claim.result c.requires.brings.0 c.args.span c.args.end c.clear_run.result r) ∙ c.in-None.is in
-    let same = same-claim (claim_of c.args.self.now.boot c.args.self.now.entries c.args.turn.now.cpu.0) c.requires.brings.0 claim' c.requires.brings.1 has in
+    let r = reports-of i.boot.value i.entries.items i.accepting i.room c.args.self.now c.args.calls i.table c.put.new.self i.bits c.clear_run.new.bits c.args.turn.now.cpu.0 c.remove-claim.result c.requires.step.claim c.args.span c.args.end c.clear_run.result c.self.view_is s.holds s.same_bits s.booted.some
+    c.requires.step.claimed c.remove-claim.ensures.taken c.requires.step.out s.steady.runs_keep c.requires.step.brings c.clear_run.ensures.cleared c.put.ensures.states c.put.ensures.out in
+    let next : next_run i.boot.value c.requires.step.claim (stop_of c.args.calls) ≡ None = sym (c.next_run_of-next.ensures ∙ next-found i.boot.value i.entries.items c.args.calls i.table c.put.new.self i.bits c.clear_run.new.bits i.accepting c.args.turn.now.cpu.0 c.remove-claim.result c.requires.step.claim c.args.span c.args.end c.clear_run.result r) ∙ c.in-None.is in
+    let same = same-claim (claim_of c.args.self.now.boot c.args.self.now.entries c.args.turn.now.cpu.0) c.requires.step.claim claim' c.requires.step.claimed has in
     let new = seen i.boot.value c.append.new.entries.items c.remove-claim.new.self i.room in
     let answer = answer_at c.args.end (c.remove-claim.result.cleared + c.clear_run.result) in
-    let P : MemoryValue → Type 0 = λ m. ReportedBy m new c.args.turn.now c.requires.brings.0 c.args.calls answer in
+    let P : MemoryValue → Type 0 = λ m. ReportedBy m new c.args.turn.now c.requires.step.claim c.args.calls answer in
     let Q : Claimed → Type 0 = λ x. ReportedBy c.args.self.now new c.args.turn.now x c.args.calls answer in
     let R : Reported → Type 0 = λ a. ReportedBy c.args.self.now new c.args.turn.now claim' c.args.calls a in
     subst R (sym c.closed_by.ensures)
     (subst Q same
     (subst P c.self.view_is
-    (reported-closed (seen i.boot.value i.entries.items i.accepting i.room) new c.args.turn.now c.requires.brings.0 c.args.calls c.args.end (c.remove-claim.result.cleared + c.clear_run.result) r.brings.stop next
-    (cleared-is i.boot.value i.entries.items c.args.calls i.table c.put.new.self i.bits c.clear_run.new.bits i.accepting c.args.turn.now.cpu.0 c.remove-claim.result c.requires.brings.0 c.args.span c.args.end c.clear_run.result r)
+    (reported-closed (seen i.boot.value i.entries.items i.accepting i.room) new c.args.turn.now c.requires.step.claim c.args.calls c.args.end (c.remove-claim.result.cleared + c.clear_run.result) r.brings.stop next
+    (cleared-is i.boot.value i.entries.items c.args.calls i.table c.put.new.self i.bits c.clear_run.new.bits i.accepting c.args.turn.now.cpu.0 c.remove-claim.result c.requires.step.claim c.args.span c.args.end c.clear_run.result r)
     (closes-of i.boot.value i.entries.items c.append.new.entries.items i.accepting c.remove-claim.new.self i.room c.args.turn.now.cpu.0 (kept_of-inside i.accepting c.args.turn.now.cpu.0 c.remove-claim.result c.remove-claim.ensures.taken) c.remove-claim.ensures.rest))))
 
 pub returns-in-None-clause-appends : goal.returns-in-None-clause-appends
 returns-in-None-clause-appends c claim' has =
     let i = c.self.inside in
     let s = c.self.invariant.0 in
-    let r = reports-of i.boot.value i.entries.items i.accepting i.room c.args.self.now c.args.calls i.table c.put.new.self i.bits c.clear_run.new.bits c.args.turn.now.cpu.0 c.remove-claim.result c.requires.brings.0 c.args.span c.args.end c.clear_run.result c.self.view_is s.holds s.same_bits s.booted.some
-    c.requires.brings.1 c.remove-claim.ensures.taken c.requires.out c.requires.brings.2 c.clear_run.ensures.cleared c.put.ensures.states c.put.ensures.out in
-    let entries = entries-are i.boot.value i.entries.items c.args.calls i.table c.put.new.self i.bits c.clear_run.new.bits i.accepting c.args.turn.now.cpu.0 c.remove-claim.result c.requires.brings.0 c.args.span c.args.end c.clear_run.result r c.append.new.entries.items c.args.turn.now i.last c.stopped_page.result c.next_run_of-next.result c.stopped_page.ensures c.next_run_of-next.ensures c.append.ensures.entries in
-    appends-reported i.boot.value i.entries.items i.accepting i.room c.args.self.now (seen i.boot.value c.append.new.entries.items c.remove-claim.new.self i.room) c.args.turn.now c.append.new.turn i.last c.requires.brings.0 claim' c.args.calls c.self.view_is c.requires.brings.1 has refl entries s.last_is c.append.ensures.turn
+    let r = reports-of i.boot.value i.entries.items i.accepting i.room c.args.self.now c.args.calls i.table c.put.new.self i.bits c.clear_run.new.bits c.args.turn.now.cpu.0 c.remove-claim.result c.requires.step.claim c.args.span c.args.end c.clear_run.result c.self.view_is s.holds s.same_bits s.booted.some
+    c.requires.step.claimed c.remove-claim.ensures.taken c.requires.step.out s.steady.runs_keep c.requires.step.brings c.clear_run.ensures.cleared c.put.ensures.states c.put.ensures.out in
+    let entries = entries-are i.boot.value i.entries.items c.args.calls i.table c.put.new.self i.bits c.clear_run.new.bits i.accepting c.args.turn.now.cpu.0 c.remove-claim.result c.requires.step.claim c.args.span c.args.end c.clear_run.result r c.append.new.entries.items c.args.turn.now i.last c.stopped_page.result c.next_run_of-next.result c.stopped_page.ensures c.next_run_of-next.ensures c.append.ensures.entries in
+    appends-reported i.boot.value i.entries.items i.accepting i.room c.args.self.now (seen i.boot.value c.append.new.entries.items c.remove-claim.new.self i.room) c.args.turn.now c.append.new.turn i.last c.requires.step.claim claim' c.args.calls c.self.view_is c.requires.step.claimed has refl entries s.last_is c.append.ensures.turn
 
 pub returns-in-None-clause-others : goal.returns-in-None-clause-others
 returns-in-None-clause-others c =
     let i = c.self.inside in
     let s = c.self.invariant.0 in
-    let r = reports-of i.boot.value i.entries.items i.accepting i.room c.args.self.now c.args.calls i.table c.put.new.self i.bits c.clear_run.new.bits c.args.turn.now.cpu.0 c.remove-claim.result c.requires.brings.0 c.args.span c.args.end c.clear_run.result c.self.view_is s.holds s.same_bits s.booted.some
-    c.requires.brings.1 c.remove-claim.ensures.taken c.requires.out c.requires.brings.2 c.clear_run.ensures.cleared c.put.ensures.states c.put.ensures.out in
-    let entries = entries-are i.boot.value i.entries.items c.args.calls i.table c.put.new.self i.bits c.clear_run.new.bits i.accepting c.args.turn.now.cpu.0 c.remove-claim.result c.requires.brings.0 c.args.span c.args.end c.clear_run.result r c.append.new.entries.items c.args.turn.now i.last c.stopped_page.result c.next_run_of-next.result c.stopped_page.ensures c.next_run_of-next.ensures c.append.ensures.entries in
+    let r = reports-of i.boot.value i.entries.items i.accepting i.room c.args.self.now c.args.calls i.table c.put.new.self i.bits c.clear_run.new.bits c.args.turn.now.cpu.0 c.remove-claim.result c.requires.step.claim c.args.span c.args.end c.clear_run.result c.self.view_is s.holds s.same_bits s.booted.some
+    c.requires.step.claimed c.remove-claim.ensures.taken c.requires.step.out s.steady.runs_keep c.requires.step.brings c.clear_run.ensures.cleared c.put.ensures.states c.put.ensures.out in
+    let entries = entries-are i.boot.value i.entries.items c.args.calls i.table c.put.new.self i.bits c.clear_run.new.bits i.accepting c.args.turn.now.cpu.0 c.remove-claim.result c.requires.step.claim c.args.span c.args.end c.clear_run.result r c.append.new.entries.items c.args.turn.now i.last c.stopped_page.result c.next_run_of-next.result c.stopped_page.ensures c.next_run_of-next.ensures c.append.ensures.entries in
     let P : MemoryValue → Type 0 = λ m. OthersKeep m (seen i.boot.value c.append.new.entries.items c.remove-claim.new.self i.room) c.args.turn.now.cpu.0 in
     subst P c.self.view_is
-    (others-reported i.boot.value i.entries.items c.args.calls i.table c.put.new.self i.bits c.clear_run.new.bits i.accepting c.args.turn.now.cpu.0 c.remove-claim.result c.requires.brings.0 c.args.span c.args.end c.clear_run.result r c.append.new.entries.items c.remove-claim.new.self i.room i.room None (calls-after i.boot.value i.entries.items c.append.new.entries.items c.args.turn.now i.last c.requires.brings.0 c.args.calls entries) c.remove-claim.ensures.rest)
+    (others-reported i.boot.value i.entries.items c.args.calls i.table c.put.new.self i.bits c.clear_run.new.bits i.accepting c.args.turn.now.cpu.0 c.remove-claim.result c.requires.step.claim c.args.span c.args.end c.clear_run.result r c.append.new.entries.items c.remove-claim.new.self i.room i.room None (calls-after i.boot.value i.entries.items c.append.new.entries.items c.args.turn.now i.last c.requires.step.claim c.args.calls entries) c.remove-claim.ensures.rest)
