@@ -89,7 +89,8 @@ impl Mappings {
         ensures found { result ≡ live_at self.old name.now }
         ensures gone { live_at self.new name.now ≡ None }
         ensures none { IfNone result (self.new ≡ self.old) }
-        ensures others { (n : List ℕ) → n ≢ name.now → live_at self.new n ≡ live_at self.old n }
+        ensures others { (n : List ℕ) → n ≢ name.now
+            → live_at self.new n ≡ live_at self.old n }
         ensures room { self.old.room ≤ self.new.room }
     {
         let at = place_of(self.kept.as_slice(), name)?;

@@ -22,7 +22,8 @@ pub fn zero_run(counts: &mut [u32], at: usize, need: usize)
     requires inside { at + need ≤ length counts.old }
     requires counted { IsCounted counts.old }
     ensures counted { IsCountedBut counts.new at }
-    ensures zeros { (k : ℕ) → zero_at counts.new k ≡ (in_range at need k || zero_at counts.old k) }
+    ensures zeros { (k : ℕ) → zero_at counts.new k
+        ≡ (in_range at need k || zero_at counts.old k) }
 {
     for k in at..at + need {
         counts[k] = 0;

@@ -14,7 +14,8 @@ fn take_fitting(slots: &mut Slots, need: u32, align: Align) -> Option<u32>
     requires few { need ≤ 128 }
     ensures inside { IfSome result (λ at. at + need ≤ slot_count slots.new) }
     ensures segment { IfSome result (λ at. InOneSegment at need) }
-    ensures used { IfSome result (λ at. (k : ℕ) → InRange at need k → is_used slots.new k ≡ true) }
+    ensures used { IfSome result (λ at. (k : ℕ)
+        → InRange at need k → is_used slots.new k ≡ true) }
 {
     let at = slots.fits(need, align)?;
     slots.take(at, need);
