@@ -1,0 +1,5 @@
+pub mod Replies
+pub mod Running
+pub mod Seen
+pub mod Standing
+pub mod Steps

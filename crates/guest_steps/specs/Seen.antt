@@ -1,0 +1,98 @@
+use Rattle.std.specs.Prelude.{ℕ, List, [], Option, None, Some, ◌+◌, ◌-◌, ◌*◌, length, map, slice_get}
+use Rattle.guest_base.specs.declared.limits.TheConstants.{PAGE_END}
+use Rattle.event_core.specs.declared.boot.Boot.{Boot}
+use Rattle.event_core.specs.declared.command.Command.{Command}
+use Rattle.event_core.specs.declared.entry.Entry.{Entry}
+use Rattle.event_core.specs.declared.module_call.ModuleCall.{ModuleCall}
+use Rattle.event_core.specs.declared.reply.Reply.{Reply}
+use Rattle.event_core.specs.Holdings.{Own}
+use Rattle.event_core.specs.Moved.{Moved}
+use Rattle.event_core.specs.Own.{replied, own_of}
+use Rattle.event_core.specs.Refusals.{refusal_of}
+use Rattle.page_module.specs.Spans.{Taken}
+use Rattle.accept_sizes.specs.declared.accept.RunEnd.{RunEnd}
+use Rattle.memory_core.specs.UnderLock.{unmoved}
+use Rattle.guest_steps.specs.declared.processor.Need.{Need}
+use Rattle.guest_steps.specs.declared.processor.Need.TheVariants as need
+
+-- What contracts see of a processor (own rule).
+
+-- the calls that were made for the span that is out, and how its acceptance ended
+pub record Accepted : Type 0 where
+  pub calls : List ModuleCall
+  pub end : RunEnd
+
+-- A processor: how the guest was booted, its number, its script, its entries with their replies,
+-- the span that is out for its open claim, what was done for this span and isn't reported yet, and
+-- its port's calls and count of faults, as they were when the processor was made and as they are.
+pub record Seen : Type 0 where
+  pub boot : Boot
+  pub number : ℕ
+  pub script : List Command
+  pub entries : List Entry
+  pub out : Option Taken
+  pub done : Option Accepted
+  pub made_before : List ModuleCall
+  pub made : List ModuleCall
+  pub faults_before : ℕ
+  pub faults : ℕ
+
+-- a processor that has made no entry
+abbrev pub first_seen : Boot → ℕ → List Command → List ModuleCall → ℕ → Seen
+first_seen boot number script made faults = record {
+  boot = boot;
+  number = number;
+  script = script;
+  entries = [];
+  out = None;
+  done = None;
+  made_before = made;
+  made = made;
+  faults_before = faults;
+  faults = faults;
+}
+
+-- its entries, which move no byte of the pool
+abbrev pub own_moved : Seen → List Moved
+own_moved c = map unmoved c.entries
+
+-- the number of its present command: the count of its replies
+abbrev pub command_number : Seen → ℕ
+command_number c = replied (own_moved c)
+
+-- its present command; none where all have their reply
+abbrev pub present_command : Seen → Option Command
+present_command c = slice_get c.script (command_number c)
+
+-- a refused command ends by the processor alone; any other takes a step of the memory
+abbrev pub need_unless_refused : Option Reply → Need
+need_unless_refused (Some refusal) = need.Own
+need_unless_refused None = need.Memory
+
+abbrev pub need_for : Boot → Own → Option Command → Need
+need_for boot own None = need.Finished
+need_for boot own (Some command) = need_unless_refused (refusal_of boot own command)
+
+-- with an open claim the next step is the claim's report
+abbrev pub need_by : Option Taken → Need → Need
+need_by (Some span) at_rest = need.Memory
+need_by None at_rest = at_rest
+
+-- what a processor's next step needs
+abbrev pub need_of : Seen → Need
+need_of c =
+    need_by c.out (need_for c.boot (own_of c.script (own_moved c)) (present_command c))
+
+-- the most steps of a command, and one more: its claim, and a report for each page of memory
+abbrev pub STEPS : ℕ
+STEPS = PAGE_END + 2
+
+-- The most steps that are left with this many commands, of which this many have their reply. With
+-- an open claim, whose later runs lie behind the one that is out, those of its command are fewer.
+abbrev pub left_by : ℕ → ℕ → Option Taken → ℕ
+left_by commands number None = (commands - number) * STEPS
+left_by commands number (Some span) =
+    (commands - (number + 1)) * STEPS + 1 + (PAGE_END - span.ticket.pages.first)
+
+abbrev pub steps_left : Seen → ℕ
+steps_left c = left_by (length c.script) (command_number c) c.out
