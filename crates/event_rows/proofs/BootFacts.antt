@@ -1,18 +1,18 @@
 use Rattle.std.proofs.Common.{◌≡◌, ℕ, zero, suc, None, Some, Bool, true, false, [], ◌∷◌, refl, inr, arith, ◌<◌, ◌||◌, if◌then◌else◌, cond}
-use Rattle.std.specs.Prelude.{All}
 use Rattle.std.specs.Option.{option_map}
-use Rattle.std.specs.List.{AllPairs}
 use Rattle.std.proofs.lemmas.Bool.Decides.{nat_tests}
 use Rattle.std.proofs.lemmas.List.Sorted.{IsPermutation-refl}
 use Rattle.guest_base.specs.Ranges.{in_range}
 use Rattle.guest_base.specs.declared.memory.PageState.TheVariants.{Pending, Accepted}
 use Rattle.guest_base.specs.declared.memory.PageRun.{PageRun}
-use Rattle.event_core.specs.Runs.{GoesBefore, state_in}
+use Rattle.event_core.specs.Runs.{state_in}
 use Rattle.event_core.specs.Map.{first_state}
 use Rattle.event_core.specs.Units.{bit_of}
 use Rattle.event_core.specs.Stub.{EarlyPieces, stub_bit}
 use Rattle.event_core.specs.Cut.{cut, blocks_from, order_at}
 use Rattle.event_core.specs.Boot.{BootRight, BootCalls}
+use Rattle.event_core.specs.Given.{first_by}
+use Rattle.event_rows.proofs.BootedLemmas.{run_of, two-runs, is-booted}
 use Rattle.event_rows.specs.Accepts.{small_guest}
 use Rattle.event_rows.specs.SmallMap.{small_map}
 
@@ -30,17 +30,6 @@ not_both page low high = grind (arith, nat_tests, low, high)
 
 each-state : (page : ℕ) → state_in small_guest.ram page ≡ first_state small_map page
 each-state page = two_ways (in_range 0 1024 page) (in_range 1024 2048 page) (not_both page)
-
-some-pages : All (λ (run : PageRun). 0 < run.pages.count) small_guest.ram
-some-pages zero d h = omega arith
-some-pages (suc zero) d h = omega arith
-some-pages (suc (suc k)) d h = absurd (omega (arith, h))
-
-runs-rise : AllPairs GoesBefore small_guest.ram
-runs-rise zero zero d h k = absurd (omega (arith, h))
-runs-rise zero (suc zero) d h k = record { ends = omega arith; differs = λ meets same. cc }
-runs-rise zero (suc (suc j)) d h k = absurd (omega (arith, k))
-runs-rise (suc i) j d h k = absurd (omega (arith, h, k))
 
 bits : (unit : ℕ) → unit < 8 → bit_of (15 ∷ []) unit ≡ stub_bit small_map unit
 bits zero h = refl
@@ -66,18 +55,7 @@ no-calls = record {
 }
 
 pub small_guest-booted : BootRight small_map [] None 0 1 1 small_guest
-small_guest-booted = record {
-  uncalled = record {
-    ram = record { each = each-state; some = some-pages; rise = runs-rise };
-    same_hosts = refl;
-    unit = refl;
-    base = refl;
-    bitmap = refl;
-    bits = bits;
-    same_cpus = refl;
-    same_areas = refl;
-    raised = refl;
-    pool = refl;
-  };
-  made = no-calls;
-}
+small_guest-booted =
+    is-booted small_map None 0 1 1 small_guest
+    (two-runs (first_by small_map None) (run_of 0 1024 Accepted) (run_of 1024 2048 Pending) (omega arith) (omega arith) (record { ends = omega arith; differs = λ meets same. cc }) each-state)
+    bits refl no-calls (refl, refl, refl, refl, refl, refl, refl)

@@ -1,5 +1,6 @@
 pub mod AreaFacts
 pub mod BootFacts
+pub mod BootedLemmas
 pub mod BounceFacts
 pub mod ConversionFacts
 pub mod Evaluated

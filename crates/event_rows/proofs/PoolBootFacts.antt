@@ -1,14 +1,12 @@
-use Rattle.std.proofs.Common.{◌≡◌, ◌≢◌, ℕ, zero, suc, None, Some, Bool, true, false, [], refl, inl, inr, arith, ◌<◌, ◌||◌, if◌then◌else◌, cond}
-use Rattle.std.specs.Prelude.{All}
+use Rattle.std.proofs.Common.{◌≡◌, ◌≢◌, ℕ, None, Some, Bool, true, false, [], refl, inl, inr, arith, ◌||◌, if◌then◌else◌, cond}
 use Rattle.std.specs.Option.{option_map}
-use Rattle.std.specs.List.{AllPairs}
 use Rattle.std.proofs.lemmas.Bool.Decides.{nat_tests}
 use Rattle.std.proofs.lemmas.List.Sorted.{IsPermutation-refl}
 use Rattle.guest_base.specs.Search.{first_such, each_such, any_such, row_length}
 use Rattle.guest_base.specs.Ranges.{in_range}
 use Rattle.guest_base.specs.declared.memory.PageState.TheVariants.{Accepted}
 use Rattle.guest_base.specs.declared.memory.PageRun.{PageRun}
-use Rattle.event_core.specs.Runs.{GoesBefore, state_in}
+use Rattle.event_core.specs.Runs.{state_in}
 use Rattle.event_core.specs.Map.{first_state}
 use Rattle.event_core.specs.Units.{guarded, bit_after, first_run}
 use Rattle.event_core.specs.Acceptance.{fits}
@@ -16,6 +14,8 @@ use Rattle.event_core.specs.MemoryRows.{pending_in}
 use Rattle.event_core.specs.Stub.{EarlyPieces}
 use Rattle.event_core.specs.Cut.{cut, blocks_from, order_at}
 use Rattle.event_core.specs.Boot.{BootRight, BootCalls, PoolPlaced}
+use Rattle.event_core.specs.Given.{first_by}
+use Rattle.event_rows.proofs.BootedLemmas.{run_of, one-run, is-booted}
 use Rattle.event_rows.specs.Bounces.{pool_guest}
 use Rattle.event_rows.specs.BootMaps.{pool_map, small_pages_map, stopped_guest, stopped_calls}
 
@@ -25,13 +25,6 @@ one_way false = refl
 
 each-state : (page : ℕ) → state_in pool_guest.ram page ≡ first_state pool_map page
 each-state page = one_way (in_range 0 65 page)
-
-some-pages : All (λ (run : PageRun). 0 < run.pages.count) pool_guest.ram
-some-pages zero d h = omega arith
-some-pages (suc k) d h = absurd (omega (arith, h))
-
-runs-rise : AllPairs GoesBefore pool_guest.ram
-runs-rise i j d h k = absurd (omega (arith, h, k))
 
 in_all : (page : ℕ) → in_range 0 64 page ≡ true → in_range 0 65 page ≡ true
 in_all page h = grind (arith, nat_tests, h)
@@ -60,21 +53,10 @@ pool-calls = record {
 
 pub pool_guest-booted : BootRight pool_map [] None 128 1 1 pool_guest
 unfolding first_such
-pool_guest-booted = record {
-  uncalled = record {
-    ram = record { each = each-state; some = some-pages; rise = runs-rise };
-    same_hosts = refl;
-    unit = refl;
-    base = refl;
-    bitmap = refl;
-    bits = λ unit low. absurd (omega (arith, low));
-    same_cpus = refl;
-    same_areas = refl;
-    raised = refl;
-    pool = pool-place;
-  };
-  made = pool-calls;
-}
+pool_guest-booted =
+    is-booted pool_map None 128 1 1 pool_guest
+    (one-run (first_by pool_map None) (run_of 0 65 Accepted) (omega arith) each-state)
+    (λ unit low. absurd (omega (arith, low))) pool-place pool-calls (refl, refl, refl, refl, refl, refl, refl)
 
 no-small_pieces : EarlyPieces small_pages_map []
 no-small_pieces = record { sorted = small_pages_map; same = IsPermutation-refl _; rise = tt; made = refl }

@@ -1,7 +1,6 @@
 use Rattle.std.proofs.Common.{◌≡◌, ℕ, zero, suc, ◌-◌, ◌/◌, ◌<◌, ◌≤◌, Bool, true, false, not, ◌&&◌, ◌||◌, Option, None, Some, [], ◌∷◌, refl, sym, ◌∙◌, ap, inr, arith, cond, if◌then◌else◌, length}
-use Rattle.std.specs.Prelude.{All, nat_le, nat_lt}
+use Rattle.std.specs.Prelude.{nat_le, nat_lt}
 use Rattle.std.specs.Option.{option_map}
-use Rattle.std.specs.List.{AllPairs}
 use Rattle.std.proofs.lemmas.Bool.Decides.{nat_tests}
 use Rattle.guest_base.specs.Ranges.{in_range}
 use Rattle.guest_base.specs.Search.{first_such, each_such, any_such}
@@ -9,12 +8,13 @@ use Rattle.guest_base.specs.declared.memory.PageRun.{PageRun}
 use Rattle.guest_base.specs.declared.memory.PageState.{PageState}
 use Rattle.guest_base.specs.declared.memory.PageState.TheVariants.{Pending, Accepted}
 use Rattle.guest_base.proofs.SearchLemmas.{each_such-true}
-use Rattle.event_core.specs.Runs.{GoesBefore, state_in}
+use Rattle.event_core.specs.Runs.{state_in}
 use Rattle.event_core.specs.Units.{bit_of}
 use Rattle.event_core.specs.Table.{IsTable, FitsTable, marks_page, bad_unit, most_bytes}
 use Rattle.event_core.specs.Given.{first_by}
 use Rattle.event_core.specs.Cut.{cut, blocks_from, order_at}
 use Rattle.event_core.specs.Boot.{BootRight, BootCalls}
+use Rattle.event_rows.proofs.BootedLemmas.{run_of, one-run, two-runs, is-booted}
 use Rattle.event_rows.specs.SmallMap.{small_map}
 use Rattle.event_rows.specs.SmallUnits.{small_table, small_unit_guest}
 use Rattle.event_rows.specs.Giving.{giving_guest}
@@ -62,9 +62,6 @@ small-bit unit low = is_same _ _ ((each_such-true (λ unit. same_bit (bit_of sma
 abbrev two_states : PageRun → PageRun → Bool → Bool → Option PageState
 two_states low high in_low in_high = option_map (λ (run : PageRun). run.state) (cond in_low (Some low) (cond in_high (Some high) None))
 
-abbrev run_of : ℕ → ℕ → PageState → PageRun
-run_of first count state = record { pages = record { first = first; count = count }; state = state }
-
 -- a page of accepted memory, or of unaccepted memory that is marked or not
 small_states : (low high accepted unaccepted marked : Bool) → low ≡ (accepted || (unaccepted && not marked)) → high ≡ (unaccepted && marked) → (accepted ≡ true → unaccepted ≡ false) →
     two_states (run_of 0 1536 Accepted) (run_of 1536 1536 Pending) low high
@@ -102,41 +99,15 @@ small-state page =
     (upper_by (in_range 1536 1536 page) (in_range 1024 2048 page) (marks_page small_table page) (nat_le 1536 page) (small-mark page) (small-upper page))
     (not-both page)
 
-two-some : (low high : PageRun) → 0 < low.pages.count → 0 < high.pages.count → All (λ (run : PageRun). 0 < run.pages.count) (low ∷ high ∷ [])
-two-some low high l h zero d k = l
-two-some low high l h (suc zero) d k = h
-two-some low high l h (suc (suc n)) d k = absurd (omega (arith, k))
-
-two-rise : (low high : PageRun) → GoesBefore low high → AllPairs GoesBefore (low ∷ high ∷ [])
-two-rise low high g zero zero d h k = absurd (omega (arith, h))
-two-rise low high g zero (suc zero) d h k = g
-two-rise low high g zero (suc (suc j)) d h k = absurd (omega (arith, k))
-two-rise low high g (suc i) j d h k = absurd (omega (arith, h, k))
-
 small-calls : BootCalls small_map (Some small_table) small_unit_guest [] None
 unfolding cut blocks_from order_at
 small-calls = record { pieces = []; early = refl; stages = inr ([], [], refl, (refl, refl), inr ([], [], refl, (refl, refl), inr ([], [], refl, (refl, refl), (refl, refl)))) }
 
 pub small_unit-booted : BootRight small_map [] (Some small_table) 0 1 1 small_unit_guest
-small_unit-booted = record {
-  uncalled = record {
-    ram = record {
-      each = small-state;
-      some = two-some (run_of 0 1536 Accepted) (run_of 1536 1536 Pending) (omega arith) (omega arith);
-      rise = two-rise (run_of 0 1536 Accepted) (run_of 1536 1536 Pending) (record { ends = omega arith; differs = λ meets same. cc });
-    };
-    same_hosts = refl;
-    unit = refl;
-    base = refl;
-    bitmap = refl;
-    bits = λ unit low. refl;
-    same_cpus = refl;
-    same_areas = refl;
-    raised = refl;
-    pool = refl;
-  };
-  made = small-calls;
-}
+small_unit-booted =
+    is-booted small_map (Some small_table) 0 1 1 small_unit_guest
+    (two-runs (first_by small_map (Some small_table)) (run_of 0 1536 Accepted) (run_of 1536 1536 Pending) (omega arith) (omega arith) (record { ends = omega arith; differs = λ meets same. cc }) small-state)
+    (λ unit low. refl) refl small-calls (refl, refl, refl, refl, refl, refl, refl)
 
 -- ---- the guest of a giveback: no bit is set
 
@@ -165,33 +136,15 @@ giving-mark page = ap (λ b. nat_le 0 page && b) (clear_bit ((page - 0) / 512)) 
 giving-state : (page : ℕ) → state_in giving_guest.ram page ≡ first_by giving_map (Some giving_table) page
 giving-state page = giving_states (in_range 0 1024 page) (marks_page giving_table page) (giving-mark page)
 
-one-some : All (λ (run : PageRun). 0 < run.pages.count) giving_guest.ram
-one-some zero d h = omega arith
-one-some (suc k) d h = absurd (omega (arith, h))
-
-one-rise : AllPairs GoesBefore giving_guest.ram
-one-rise i j d h k = absurd (omega (arith, h, k))
-
 giving-calls : BootCalls giving_map (Some giving_table) giving_guest [] None
 unfolding cut blocks_from order_at
 giving-calls = record { pieces = []; early = refl; stages = inr ([], [], refl, (refl, refl), (refl, refl)) }
 
 pub giving-booted : BootRight giving_map [] (Some giving_table) 0 1 1 giving_guest
-giving-booted = record {
-  uncalled = record {
-    ram = record { each = giving-state; some = one-some; rise = one-rise };
-    same_hosts = refl;
-    unit = refl;
-    base = refl;
-    bitmap = refl;
-    bits = λ unit low. refl;
-    same_cpus = refl;
-    same_areas = refl;
-    raised = refl;
-    pool = refl;
-  };
-  made = giving-calls;
-}
+giving-booted =
+    is-booted giving_map (Some giving_table) 0 1 1 giving_guest
+    (one-run (first_by giving_map (Some giving_table)) (run_of 0 1024 Accepted) (omega arith) giving-state)
+    (λ unit low. refl) refl giving-calls (refl, refl, refl, refl, refl, refl, refl)
 
 -- ---- the guest of a giveback within a claim: the first two bits are set
 
@@ -233,22 +186,7 @@ unfolding cut blocks_from order_at
 meanwhile-calls = record { pieces = []; early = refl; stages = inr ([], [], refl, (refl, refl), inr ([], [], refl, (refl, refl), (refl, refl))) }
 
 pub meanwhile-booted : BootRight meanwhile_map [] (Some meanwhile_table) 0 1 2 meanwhile_guest
-meanwhile-booted = record {
-  uncalled = record {
-    ram = record {
-      each = meanwhile-state;
-      some = two-some (run_of 0 1024 Pending) (run_of 1024 1024 Accepted) (omega arith) (omega arith);
-      rise = two-rise (run_of 0 1024 Pending) (run_of 1024 1024 Accepted) (record { ends = omega arith; differs = λ meets same. cc });
-    };
-    same_hosts = refl;
-    unit = refl;
-    base = refl;
-    bitmap = refl;
-    bits = λ unit low. refl;
-    same_cpus = refl;
-    same_areas = refl;
-    raised = refl;
-    pool = refl;
-  };
-  made = meanwhile-calls;
-}
+meanwhile-booted =
+    is-booted meanwhile_map (Some meanwhile_table) 0 1 2 meanwhile_guest
+    (two-runs (first_by meanwhile_map (Some meanwhile_table)) (run_of 0 1024 Pending) (run_of 1024 1024 Accepted) (omega arith) (omega arith) (record { ends = omega arith; differs = λ meets same. cc }) meanwhile-state)
+    (λ unit low. refl) refl meanwhile-calls (refl, refl, refl, refl, refl, refl, refl)

@@ -1,6 +1,7 @@
 //! Pages, units, blocks and their states.
 ghost use Rattle.std.specs.Prelude.{◌≡◌, ◌≢◌, ℕ, ◌+◌, ◌*◌, ◌^◌, ◌<◌, ◌≤◌, ◌↔◌, ◌⊎◌, IsTrue, IfSome, IfNone};
-ghost use Rattle.guest_base.specs.Ranges.{InRange, in_range};
+ghost use Rattle.guest_base.specs.Ranges.{in_range, RangesMeet, IsRange, IsNoRange};
+ghost use Rattle.guest_base.specs.declared.limits.TheConstants.{PAGE_END};
 ghost use Rattle.guest_base.specs.Levels.{level_pages};
 
 use crate::limits::PAGE_END;
@@ -74,10 +75,9 @@ pub struct Block {
 impl Pages {
     /// The `count` pages from `first` on. None exactly where `count` is 0, or they end above 2^28.
     pub fn new(first: u64, count: u64) -> Option<Pages>
-        ensures some { IfSome result
-            (λ p. (p ≡ record { first = first; count = count }) × (0 < count)
-            × (first + count ≤ 2 ^ 28)) }
-        ensures none { IfNone result ((count ≡ 0) ⊎ (2 ^ 28 < first + count)) }
+        ensures some { IfSome result (λ p.
+            (p ≡ record { first = first; count = count }) × IsRange first count) }
+        ensures none { IfNone result (IsNoRange first count) }
     {
         if is_range(first, count) {
             Some(Pages { first, count })
@@ -95,9 +95,7 @@ impl Pages {
 
     /// Whether the two have a page in common.
     pub fn meets(self, other: Pages) -> bool
-        ensures { IsTrue result
-            ↔ ((page : ℕ) × InRange self.first self.count page
-            × InRange other.first other.count page) }
+        ensures { IsTrue result ↔ RangesMeet self.first self.count other.first other.count }
     {
         ranges_meet(self.first, self.count, other.first, other.count)
     }
@@ -106,10 +104,9 @@ impl Pages {
 impl Units {
     /// The `count` units from `first` on. None exactly where `count` is 0, or they end above 2^28.
     pub fn new(first: u64, count: u64) -> Option<Units>
-        ensures some { IfSome result
-            (λ u. (u ≡ record { first = first; count = count }) × (0 < count)
-            × (first + count ≤ 2 ^ 28)) }
-        ensures none { IfNone result ((count ≡ 0) ⊎ (2 ^ 28 < first + count)) }
+        ensures some { IfSome result (λ u.
+            (u ≡ record { first = first; count = count }) × IsRange first count) }
+        ensures none { IfNone result (IsNoRange first count) }
     {
         if is_range(first, count) {
             Some(Units { first, count })
@@ -120,9 +117,7 @@ impl Units {
 
     /// Whether the two have a unit in common.
     pub fn meets(self, other: Units) -> bool
-        ensures { IsTrue result
-            ↔ ((unit : ℕ) × InRange self.first self.count unit
-            × InRange other.first other.count unit) }
+        ensures { IsTrue result ↔ RangesMeet self.first self.count other.first other.count }
     {
         ranges_meet(self.first, self.count, other.first, other.count)
     }
@@ -145,7 +140,7 @@ impl Block {
     /// The block's pages.
     pub fn pages(self) -> Pages
         requires order { self.order ≤ 10 }
-        requires end { self.first + 2 ^ self.order ≤ 2 ^ 28 }
+        requires end { self.first + 2 ^ self.order ≤ PAGE_END }
         ensures { result ≡ record { first = self.first; count = 2 ^ self.order } }
     {
         Pages {
@@ -157,15 +152,14 @@ impl Block {
 
 /// Whether there are any of the `count` numbers from `first` on, and none ends above 2^28.
 fn is_range(first: u64, count: u64) -> bool
-    ensures { IsTrue result ↔ ((0 < count) × (first + count ≤ 2 ^ 28)) }
+    ensures { IsTrue result ↔ IsRange first count }
 {
     count > 0 && first <= PAGE_END && count <= PAGE_END - first
 }
 
 /// Whether two ranges have a number in common; their ends may lie above every `u64`.
 fn ranges_meet(first: u64, count: u64, other_first: u64, other_count: u64) -> bool
-    ensures { IsTrue result
-        ↔ ((n : ℕ) × InRange first count n × InRange other_first other_count n) }
+    ensures { IsTrue result ↔ RangesMeet first count other_first other_count }
 {
     let (first, other_first) = (u128::from(first), u128::from(other_first));
     let start = first.max(other_first);

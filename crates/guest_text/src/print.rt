@@ -1,7 +1,8 @@
 //! The printed text of a run.
-ghost use Rattle.std.specs.Prelude.{◌≡◌, ◌++◌, ◌+◌, ◌^◌, ◌≤◌, codes, string_bytes, map, ◌==◌, if◌then◌else◌, None, IfOk, OnOk, OnErr, IsErrOf};
+ghost use Rattle.std.specs.Prelude.{◌≡◌, ◌++◌, ◌+◌, ◌≤◌, codes, string_bytes, map, ◌==◌, if◌then◌else◌, None, IfOk, OnOk, OnErr, IsErrOf};
 ghost use Rattle.std.specs.Option.{option_copied};
 ghost use Rattle.std.specs.Fmt.{decimal};
+ghost use Rattle.guest_base.specs.declared.limits.TheConstants.{PAGE_END};
 ghost use Rattle.guest_base.specs.Counts.{Rose};
 ghost use Rattle.guest_io.specs.Writing.{appended, AppendsPrefix};
 ghost use Rattle.event_core.specs.Runs.{run_end};
@@ -75,7 +76,7 @@ fn state_word(state: PageState) -> &'static str
 
 /// Adds the line of a run of pages: its first address, the first address after it, and its state.
 fn push_run(text: &mut String, run: PageRun) -> Result<(), AllocError>
-    requires { run_end run ≤ 2 ^ 28 }
+    requires { run_end run ≤ PAGE_END }
     ensures { OnOk result (string_bytes text.new ≡ string_bytes text.old ++ page_run_text run) }
 {
     let start = PAGE_BYTES * run.pages.first;
