@@ -1,6 +1,7 @@
 //! Boot: what is made of a map, and the memory that it leaves.
 ghost use Rattle.std.specs.Prelude.{◌≡◌, ◌≤◌, ◌+◌, ◌^◌, [], None, Some, Err, List, All, IfOk, OnOk, map};
 ghost use Rattle.guest_base.specs.Counts.{Rose};
+ghost use Rattle.guest_base.specs.declared.limits.TheConstants.{PAGE_END};
 ghost use Rattle.guest_base.specs.declared.memory.Block.{Block as BlockValue};
 ghost use Rattle.guest_base.specs.declared.memory.Page.{Page as PageValue};
 ghost use Rattle.guest_base.specs.declared.memory.Pages.{Pages as PagesValue};
@@ -162,7 +163,7 @@ fn accept_stages<P: Port>(
     requires early { All (λ (piece : PageRunValue). IsEarly boot.now piece.pages) pieces.now }
     requires blocks { blocks.now ≡ cut boot.now }
     requires orders { All (λ (b : BlockValue). b.order ≤ 10) blocks.now }
-    requires ends { All (λ (b : BlockValue). b.first + 2 ^ b.order ≤ 2 ^ 28) blocks.now }
+    requires ends { All (λ (b : BlockValue). b.first + 2 ^ b.order ≤ PAGE_END) blocks.now }
     ensures done { WorkedOn boot.now
         (InTurn (StagePart boot.now) (P.made port.old) (stages_by boot.now pieces.now))
         (P.made port.old) (P.made port.new) kept.new result }

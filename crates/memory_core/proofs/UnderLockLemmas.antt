@@ -201,7 +201,7 @@ brings-now memory cpu claim span calls end brings = record {
 }
 
 -- the last stamp only grows
-last-grows : (from : ℕ) (entries rest : List Entry) → fold (λ last (e : Entry). max last e.stamp) from entries ≤ fold (λ last (e : Entry). max last e.stamp) from (entries ++ rest)
+pub last-grows : (from : ℕ) (entries rest : List Entry) → fold (λ last (e : Entry). max last e.stamp) from entries ≤ fold (λ last (e : Entry). max last e.stamp) from (entries ++ rest)
 last-grows from [] [] = omega arith
 last-grows from [] (e ∷ es) = let more = last-grows (max from e.stamp) [] es in omega (arith, more)
 last-grows from (e ∷ es) rest = last-grows (max from e.stamp) es rest

@@ -17,7 +17,7 @@ ghost use Rattle.page_module.specs.States.{state_in};
 ghost use Rattle.memory_core.specs.Away.{MayReport};
 ghost use Rattle.memory_core.specs.Bitmaps.{BitsAfter};
 ghost use Rattle.memory_core.specs.Value.{handed_to};
-ghost use Rattle.memory_core.specs.Steps.{last_stamp, unaccepted_count, claim_of_units, Appends, IsByteRange, MayBegin};
+ghost use Rattle.memory_core.specs.Steps.{last_stamp, unaccepted_count, claim_of_units, Appends, BringsTo, IsByteRange, MayBegin};
 
 use crate::claims::{OpenClaim, next_run_of, with_next};
 use crate::entries::append;
@@ -194,11 +194,12 @@ impl Memory {
         Ok(())
     }
 
-    /// The units that an acceptance of the `len` bytes from the address `start` on claims, the guard among them. None exactly where
-    /// there are none.
+    /// The units that an acceptance of the `len` bytes from the address `start` on claims, the guard among them; they end below 2^64.
+    /// None exactly where there are none.
     pub fn claim_units(&self, start: u64, len: u64) -> Option<Units>
         requires { IsByteRange start len }
         ensures units { result ≡ guarded_units self.now.boot start len }
+        ensures end { ForSome result (λ u. u.first + u.count < 2 ^ 64) }
     {
         guarded_units_of(&self.bits, start, len)
     }
@@ -232,6 +233,13 @@ impl Memory {
         ensures { result ≡ last_stamp self.now.entries }
     {
         self.last
+    }
+
+    /// Tells contracts that the entries rise, and does nothing.
+    pub fn show_rising(&self)
+        ensures { Rising self.now.entries }
+    {
+        let _ = &self.entries;
     }
 
     /// Claims the guarded units of a range of bytes for the turn's processor, which has no open claim, and takes out the pages of
@@ -289,7 +297,7 @@ impl Memory {
 
     /// Reports the open run of the turn's processor: its pages, which come back in the span that is out for it, were brought to
     /// their states by `calls`, with this end, from those in which they were handed out. What other processors did meanwhile
-    /// doesn't matter. The bits of the units without a pending page become clear.
+    /// doesn't matter: these are the states of the pages still. The bits of the units without a pending page become clear.
     ///
     /// `Next` has the pages of the claim's next run. Where none is left, or the acceptance stopped, the claim closes: `Stopped`
     /// comes exactly where `end` is `Stopped`. The room that a report needs was taken with the claim.
@@ -301,6 +309,10 @@ impl Memory {
         ensures appends { (claim : Claimed)
             → claim_of self.old.boot self.old.entries turn.old.cpu.0 ≡ Some claim
             → Appends self.old self.new turn.old turn.new (report_event self.old.boot claim calls) }
+        ensures brings { (claim : Claimed)
+            → claim_of self.old.boot self.old.entries turn.old.cpu.0 ≡ Some claim
+            → BringsTo self.old.boot (calls_of self.old.boot self.old.entries)
+            claim.run span calls end }
         ensures others { OthersKeep self.old self.new turn.old.cpu.0 }
     {
         let claim = self.accepting.remove(turn.cpu);

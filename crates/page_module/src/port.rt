@@ -17,7 +17,7 @@ use std::alloc::{AllocError, Global};
 ///
 /// Every call of the module is recorded, whatever its answer. A count of faults that stands at its last
 /// value, 2^64 - 1, counts as one that rose.
-pub trait Port: Send {
+pub trait Port {
     /// The calls of the module, in order.
     ghost made: { Self → List ModuleCall };
 

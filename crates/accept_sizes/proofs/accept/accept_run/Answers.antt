@@ -10,7 +10,7 @@ use Rattle.accept_sizes.proofs.Going.{length-calls, calls_left, within-of, found
 use Rattle.accept_sizes.proofs.accept.accept_run.Goals as goal
 
 pub try_call-answer-requires-clause-room : goal.try_call-answer-requires-clause-room
-try_call-answer-requires-clause-room g c κs w =
+try_call-answer-requires-clause-room g c =
     let inv = c.loop-run.invariant in
     let going = inv.done.3 in
     let found = found-run c.args.hosts.now c.args.span.now c.loop-run.span c.loop-run.from c.loop-run.tried inv.done.0 c.in-Some.run'.first c.in-Some.run'.count (within-of c.args.span.now c.pages-from.result c.pages-from.ensures.value c.pages-from.ensures.within) going c.in-Some.ensures.some in
@@ -18,7 +18,7 @@ try_call-answer-requires-clause-room g c κs w =
     omega (arith, left, inv.few, inv.room, c.requires.room)
 
 pub try_call-answer-requires-clause-log_room : goal.try_call-answer-requires-clause-log_room
-try_call-answer-requires-clause-log_room g c κs w =
+try_call-answer-requires-clause-log_room g c =
     let inv = c.loop-run.invariant in
     let going = inv.done.3 in
     let found = found-run c.args.hosts.now c.args.span.now c.loop-run.span c.loop-run.from c.loop-run.tried inv.done.0 c.in-Some.run'.first c.in-Some.run'.count (within-of c.args.span.now c.pages-from.result c.pages-from.ensures.value c.pages-from.ensures.within) going c.in-Some.ensures.some in
@@ -28,7 +28,7 @@ try_call-answer-requires-clause-log_room g c κs w =
     omega (arith, left, inv.few, inv.log_room, made, noted, c.requires.log_room)
 
 pub try_call-answer-requires-clause-may : goal.try_call-answer-requires-clause-may
-try_call-answer-requires-clause-may g c κs w =
+try_call-answer-requires-clause-may g c =
     let inv = c.loop-run.invariant in
     found-may c.args.hosts.now c.args.span.now c.loop-run.span c.loop-run.from c.loop-run.tried inv.done.0 c.in-Some.run'.first c.in-Some.run'.count c.level_to_try-level.result inv.done.3 c.in-Some.ensures.some c.level_to_try-level.ensures
 

@@ -12,10 +12,10 @@ use Rattle.guest_boot.proofs.PieceLemmas.{early-few, early-here, PutBack, piece-
 use Rattle.guest_boot.proofs.accept.accept_piece.Goals as goal
 
 pub work-requires-clause-few : goal.work-requires-clause-few
-work-requires-clause-few g c κs within = early-few c.args.boot.now c.args.pages c.requires.booted c.requires.early
+work-requires-clause-few g c = early-few c.args.boot.now c.args.pages c.requires.booted c.requires.early
 
 pub work-requires-clause-here : goal.work-requires-clause-here
-work-requires-clause-here g c κs within = early-here c.args.boot.now (g.P.Port.made c.args.port.now) c.args.pages (state_in c.args.kept.now.table.runs) c.requires.stands.states c.requires.early
+work-requires-clause-here g c = early-here c.args.boot.now (g.P.Port.made c.args.port.now) c.args.pages (state_in c.args.kept.now.table.runs) c.requires.stands.states c.requires.early
 
 pub returns-in_err-span-clause-done : goal.returns-in_err-span-clause-done
 returns-in_err-span-clause-done g c =

@@ -12,12 +12,12 @@ use Rattle.guest_boot.proofs.RunLemmas.{RunOf, RunDone, run-few, run-here, run-m
 use Rattle.guest_boot.proofs.accept.accept_units.Goals as goal
 
 pub work-requires-clause-few : goal.work-requires-clause-few
-work-requires-clause-few g c κs within =
+work-requires-clause-few g c =
     run-few c.args.boot.now (g.P.Port.made c.args.port.now) c.args.kept.now c.args.run c.run_pages-pages.result
     (record { booted = c.requires.booted; stands = c.requires.stands; some = c.requires.some; set = c.requires.set; pages_are = c.run_pages-pages.ensures })
 
 pub work-requires-clause-here : goal.work-requires-clause-here
-work-requires-clause-here g c κs within =
+work-requires-clause-here g c =
     run-here c.args.boot.now (g.P.Port.made c.args.port.now) c.args.kept.now c.args.run c.run_pages-pages.result
     (record { booted = c.requires.booted; stands = c.requires.stands; some = c.requires.some; set = c.requires.set; pages_are = c.run_pages-pages.ensures })
 

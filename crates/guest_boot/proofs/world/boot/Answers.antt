@@ -19,25 +19,25 @@ pub new-requires : goal.new-requires
 new-requires g c = ram-rises c.args.map.now.descriptors c.args.map.now.hosts c.args.table c.in_ok-ram.field-0.ram c.requires.rules c.in_ok-ram.ensures.maximal
 
 pub accept_stages-requires-clause-booted : goal.accept_stages-requires-clause-booted
-accept_stages-requires-clause-booted g c κs within =
+accept_stages-requires-clause-booted g c =
     let begin : Begins c.args.map.now.descriptors c.args.map.now.hosts c.args.table c.args.areas c.args.cpus c.in_ok-ram.field-0.ram c.in_ok-ram.field-0.bits c.in_ok-ram.field-0.pieces c.in_ok-boot.boot = record { rules = c.requires.rules; few = c.requires.few; fits = c.requires.fits; begins = c.in_ok-ram.ensures; first = c.in_ok-boot.ensures } in
     begins-booted begin
 
 pub accept_stages-requires-clause-stands : goal.accept_stages-requires-clause-stands
-accept_stages-requires-clause-stands g c κs within =
+accept_stages-requires-clause-stands g c =
     let begin : Begins c.args.map.now.descriptors c.args.map.now.hosts c.args.table c.args.areas c.args.cpus c.in_ok-ram.field-0.ram c.in_ok-ram.field-0.bits c.in_ok-ram.field-0.pieces c.in_ok-boot.boot = record { rules = c.requires.rules; few = c.requires.few; fits = c.requires.fits; begins = c.in_ok-ram.ensures; first = c.in_ok-boot.ensures } in
     let kept : Kept = record { table = c.in_ok-table.table; bits = c.in_ok-ram.field-0.bits; calls = c.new-2.result } in
     subst (λ done. StandsAfter c.in_ok-boot.boot done kept) (sym c.requires.unmade)
     (first-stands c.in_ok-boot.boot kept (begins-booted begin) (λ page. c.in_ok-table.ensures.states page ∙ ap (λ runs. state_in runs page) (sym c.in_ok-boot.ensures.ram)) c.in_ok-table.ensures.out c.in_ok-boot.ensures.bitmap c.new-2.ensures.items)
 
 pub accept_stages-requires-clause-early : goal.accept_stages-requires-clause-early
-accept_stages-requires-clause-early g c κs within =
+accept_stages-requires-clause-early g c =
     let begin : Begins c.args.map.now.descriptors c.args.map.now.hosts c.args.table c.args.areas c.args.cpus c.in_ok-ram.field-0.ram c.in_ok-ram.field-0.bits c.in_ok-ram.field-0.pieces c.in_ok-boot.boot = record { rules = c.requires.rules; few = c.requires.few; fits = c.requires.fits; begins = c.in_ok-ram.ensures; first = c.in_ok-boot.ensures } in
     let P : List PageRun → Type 0 = λ pieces. All (λ (piece : PageRun). IsEarly c.in_ok-boot.boot piece.pages) pieces in
     subst P (sym c.as_slice.ensures) (begins-early begin)
 
 pub accept_stages-requires-clause-blocks : goal.accept_stages-requires-clause-blocks
-accept_stages-requires-clause-blocks g c κs within = c.as_slice-2.ensures.value ∙ c.in_ok-blocks.ensures.blocks ∙ cut-is c.in_ok-boot.boot c.in_ok-ram.field-0.ram c.in_ok-boot.ensures.pool c.in_ok-boot.ensures.ram
+accept_stages-requires-clause-blocks g c = c.as_slice-2.ensures.value ∙ c.in_ok-blocks.ensures.blocks ∙ cut-is c.in_ok-boot.boot c.in_ok-ram.field-0.ram c.in_ok-boot.ensures.pool c.in_ok-boot.ensures.ram
 
 pub returns-in_err-accept_stages-clause-stopped : goal.returns-in_err-accept_stages-clause-stopped
 returns-in_err-accept_stages-clause-stopped g c page is =

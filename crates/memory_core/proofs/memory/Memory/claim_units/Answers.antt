@@ -9,4 +9,5 @@ returns c = record {
   units =
       c.guarded_units_of.ensures.units ∙ guarded-same c.self.inside.boot.value c.self.inside.bits c.args.start c.args.len c.self.invariant.0.same_bits
       ∙ ap (λ (m : MemoryValue). guarded_units m.boot c.args.start c.args.len) c.self.view_is;
+  end = c.guarded_units_of.ensures.end;
 }

@@ -18,6 +18,7 @@ use Rattle.memory_core.specs.Bitmaps.{bits_in}
 use Rattle.memory_core.specs.Answers.{GoesOn, ReportedBy, OthersKeep, answer_at}
 use Rattle.memory_core.specs.OpenClaims.{units_of}
 use Rattle.memory_core.specs.StandsFor.{pieces_for}
+use Rattle.memory_core.specs.Steps.{BringsTo}
 use Rattle.memory_core.specs.Value.{MemoryValue}
 use Rattle.memory_core.specs.declared.claims.OpenClaim.{OpenClaim}
 use Rattle.memory_core.specs.declared.memory.Reported.{Reported}
@@ -242,3 +243,25 @@ returns-in-None-clause-others c =
     let P : MemoryValue → Type 0 = λ m. OthersKeep m (seen i.boot.value c.append.new.entries.items c.remove-claim.new.self i.room) c.args.turn.now.cpu.0 in
     subst P c.self.view_is
     (others-reported i.boot.value i.entries.items c.args.calls i.table c.put.new.self i.bits c.clear_run.new.bits i.accepting c.args.turn.now.cpu.0 c.remove-claim.result c.requires.step.claim c.args.span c.args.end c.clear_run.result r c.append.new.entries.items c.remove-claim.new.self i.room i.room None (calls-after i.boot.value i.entries.items c.append.new.entries.items c.args.turn.now i.last c.requires.step.claim c.args.calls entries) c.remove-claim.ensures.rest)
+
+pub returns-in-Some-clause-brings : goal.returns-in-Some-clause-brings
+returns-in-Some-clause-brings c claim' has =
+    let i = c.self.inside in
+    let s = c.self.invariant.0 in
+    let r = reports-of i.boot.value i.entries.items i.accepting i.room c.args.self.now c.args.calls i.table c.put.new.self i.bits c.clear_run.new.bits c.args.turn.now.cpu.0 c.remove-claim.result c.requires.step.claim c.args.span c.args.end c.clear_run.result c.self.view_is s.holds s.same_bits s.booted.some
+    c.requires.step.claimed c.remove-claim.ensures.taken c.requires.step.out s.steady.runs_keep c.requires.step.brings c.clear_run.ensures.cleared c.put.ensures.states c.put.ensures.out in
+    let same = same-claim (claim_of c.args.self.now.boot c.args.self.now.entries c.args.turn.now.cpu.0) c.requires.step.claim claim' c.requires.step.claimed has in
+    let P : MemoryValue → Type 0 = λ m. BringsTo m.boot (calls_of m.boot m.entries) c.requires.step.claim.run c.args.span c.args.calls c.args.end in
+    let Q : Claimed → Type 0 = λ x. BringsTo c.args.self.now.boot (calls_of c.args.self.now.boot c.args.self.now.entries) x.run c.args.span c.args.calls c.args.end in
+    subst Q same (subst P c.self.view_is r.brings)
+
+pub returns-in-None-clause-brings : goal.returns-in-None-clause-brings
+returns-in-None-clause-brings c claim' has =
+    let i = c.self.inside in
+    let s = c.self.invariant.0 in
+    let r = reports-of i.boot.value i.entries.items i.accepting i.room c.args.self.now c.args.calls i.table c.put.new.self i.bits c.clear_run.new.bits c.args.turn.now.cpu.0 c.remove-claim.result c.requires.step.claim c.args.span c.args.end c.clear_run.result c.self.view_is s.holds s.same_bits s.booted.some
+    c.requires.step.claimed c.remove-claim.ensures.taken c.requires.step.out s.steady.runs_keep c.requires.step.brings c.clear_run.ensures.cleared c.put.ensures.states c.put.ensures.out in
+    let same = same-claim (claim_of c.args.self.now.boot c.args.self.now.entries c.args.turn.now.cpu.0) c.requires.step.claim claim' c.requires.step.claimed has in
+    let P : MemoryValue → Type 0 = λ m. BringsTo m.boot (calls_of m.boot m.entries) c.requires.step.claim.run c.args.span c.args.calls c.args.end in
+    let Q : Claimed → Type 0 = λ x. BringsTo c.args.self.now.boot (calls_of c.args.self.now.boot c.args.self.now.entries) x.run c.args.span c.args.calls c.args.end in
+    subst Q same (subst P c.self.view_is r.brings)
