@@ -1,0 +1,131 @@
+use Rattle.std.proofs.Common.{◌≡◌, ◌≢◌, ℕ, ◌≤◌, max, false, Option, None, Some, List, [], ◌∷◌, ◌++◌, refl, sym, ◌∙◌, ap, subst, arith, append-nil, append_assoc, cond}
+use Rattle.std.specs.Prelude.{fold, ◌==◌}
+use Rattle.std.proofs.lemmas.Bool.{ne_eqb}
+use Rattle.std.proofs.lemmas.List.Elements.{All-head, All-tail, All-append, filter-append}
+use Rattle.event_core.specs.declared.boot.Boot.{Boot}
+use Rattle.event_core.specs.declared.entry.Entry.{Entry}
+use Rattle.event_core.specs.declared.entry.Place.{Place}
+use Rattle.event_core.specs.declared.entry.Place.TheVariants.{Memory, Area, Own}
+use Rattle.event_core.specs.declared.module_call.ModuleCall.{ModuleCall}
+use Rattle.event_core.specs.Calls.{calls_of}
+use Rattle.event_core.specs.Claims.{Claimed, claim_of, claim_step}
+use Rattle.event_core.specs.Moved.{Moved}
+use Rattle.event_core.specs.Turns.{entries_by}
+use Rattle.event_core.proofs.RisingLemmas.{filter-at}
+use Rattle.event_core.proofs.StandingLemmas.{claim_of-push}
+use Rattle.page_module.specs.Spans.{Taken}
+use Rattle.accept_sizes.specs.declared.accept.RunEnd.{RunEnd}
+use Rattle.memory_core.specs.Away.{NoneOf, BringsSince, FoundAgain}
+use Rattle.memory_core.specs.Steps.{BringsTo, HasStates, last_stamp}
+use Rattle.memory_core.specs.Value.{MemoryValue}
+use Rattle.guest_steps.specs.Seen.{Seen, Accepted}
+use Rattle.guest_steps.specs.Standing.{Claiming, IsAsHanded, IsOut, FollowsAll, StoodIn, Stands}
+use Rattle.guest_steps.specs.Steps.{without_reply}
+
+-- A processor goes on standing while others make entries.
+
+-- entries of others leave a processor's claim
+pub claim-stays : (boot : Boot) (cpu : ℕ) (before rest : List Entry) → NoneOf cpu rest → claim_of boot (before ++ rest) cpu ≡ claim_of boot before cpu
+claim-stays boot cpu before [] none = ap (λ es. claim_of boot es cpu) (append-nil before)
+claim-stays boot cpu before (e ∷ es) none =
+    let other = All-head (λ (x : Entry). x.cpu.0 ≢ cpu) e es none in
+    ap (λ xs. claim_of boot xs cpu) (sym (append_assoc before (e ∷ []) es))
+    ∙ claim-stays boot cpu (before ++ e ∷ []) es (All-tail (λ (x : Entry). x.cpu.0 ≢ cpu) e es none)
+    ∙ claim_of-push boot before e cpu
+    ∙ ap (λ b. cond b (claim_step boot (calls_of boot before) (claim_of boot before cpu) e.event) (claim_of boot before cpu)) (ne_eqb e.cpu.0 cpu other)
+
+pub none-by : (cpu : ℕ) (rest : List Entry) → NoneOf cpu rest → entries_by cpu rest ≡ []
+none-by cpu [] none = refl
+none-by cpu (e ∷ es) none =
+    filter-at (λ (x : Entry). x.cpu.0 == cpu) e es false (ne_eqb e.cpu.0 cpu (All-head (λ (x : Entry). x.cpu.0 ≢ cpu) e es none))
+    ∙ none-by cpu es (All-tail (λ (x : Entry). x.cpu.0 ≢ cpu) e es none)
+
+-- and its entries
+pub entries-stay : (cpu : ℕ) (before rest : List Entry) → NoneOf cpu rest → entries_by cpu (before ++ rest) ≡ entries_by cpu before
+entries-stay cpu before rest none =
+    filter-append (λ (e : Entry). e.cpu.0 == cpu) before rest ∙ ap (λ es. entries_by cpu before ++ es) (none-by cpu rest none) ∙ append-nil (entries_by cpu before)
+
+-- the last stamp only grows
+last-grows : (from : ℕ) (entries rest : List Entry) → fold (λ last (e : Entry). max last e.stamp) from entries ≤ fold (λ last (e : Entry). max last e.stamp) from (entries ++ rest)
+last-grows from [] [] = omega arith
+last-grows from [] (e ∷ es) = let more = last-grows (max from e.stamp) [] es in omega (arith, more)
+last-grows from (e ∷ es) rest = last-grows (max from e.stamp) es rest
+
+-- an entry that stood in the list stands in the longer one
+stood-longer : (place : Place) (entry : Entry) (left found rest : List Entry) (there : List Moved) → found ≡ left ++ rest → StoodIn place entry left there → StoodIn place entry found there
+stood-longer Memory entry left found rest there longer (before, later, is, at) =
+    (before, later ++ rest, longer ∙ ap (λ es. es ++ rest) is ∙ append_assoc before (without_reply entry ∷ later) rest, at)
+stood-longer (Area area) entry left found rest there longer stood = stood
+stood-longer Own entry left found rest there longer stood = stood
+
+follows-found : (c : Seen) (left found rest : List Entry) → found ≡ left ++ rest → FollowsAll c left → FollowsAll c found
+follows-found c left found rest longer follows before later entry is =
+    let at = follows before later entry is in
+    (at.0, stood-longer entry.place entry left found rest at.0 longer at.1, at.2)
+
+-- ---- what is out
+
+claim-found : (c : Seen) (left found : MemoryValue) → left.boot ≡ c.boot → FoundAgain c.number left found → claim_of c.boot found.entries c.number ≡ claim_of c.boot left.entries c.number
+claim-found c left found boot f = ap (λ es. claim_of c.boot es c.number) f.longer ∙ claim-stays c.boot c.number left.entries f.rest f.others
+
+claiming-found : (c : Seen) (left found : MemoryValue) (claim : Claimed) (span : Taken) → left.boot ≡ c.boot → FoundAgain c.number left found → Claiming c left claim span → Claiming c found claim span
+claiming-found c left found claim span boot f m =
+    let more = last-grows 0 left.entries f.rest in
+    let is : last_stamp found.entries ≡ last_stamp (left.entries ++ f.rest) = ap last_stamp f.longer in
+    let low = m.clock in
+    record {
+      claimed = claim-found c left found boot f ∙ m.claimed;
+      handed = m.handed;
+      is_handed = f.handed ∙ m.is_handed;
+      ticket = m.ticket;
+      some = m.some;
+      start = m.start;
+      len = m.len;
+      command = m.command;
+      fine = m.fine;
+      clock = omega (arith, low, more, is);
+    }
+
+handed-found : (cpu : ℕ) (left found : MemoryValue) (claim : Claimed) (span : Taken) → FoundAgain cpu left found → IsAsHanded left cpu claim span → IsAsHanded found cpu claim span
+handed-found cpu left found claim span f h = record {
+  before = h.before;
+  rest = h.rest ++ f.rest;
+  split = f.longer ∙ ap (λ es. es ++ f.rest) h.split ∙ append_assoc h.before h.rest f.rest;
+  others = All-append (λ (e : Entry). e.cpu.0 ≢ cpu) h.rest f.rest h.others f.others;
+  has = subst (λ boot. HasStates boot (calls_of boot h.before) claim.run span) (sym f.boot) h.has;
+}
+
+brings-found : (cpu : ℕ) (left found : MemoryValue) (claim : Claimed) (span : Taken) (calls : List ModuleCall) (end : RunEnd) → FoundAgain cpu left found
+    → BringsSince left cpu claim span calls end → BringsSince found cpu claim span calls end
+brings-found cpu left found claim span calls end f b = record {
+  before = b.before;
+  rest = b.rest ++ f.rest;
+  split = f.longer ∙ ap (λ es. es ++ f.rest) b.split ∙ append_assoc b.before b.rest f.rest;
+  others = All-append (λ (e : Entry). e.cpu.0 ≢ cpu) b.rest f.rest b.others f.others;
+  brings = subst (λ boot. BringsTo boot (calls_of boot b.before) claim.run span calls end) (sym f.boot) b.brings;
+}
+
+out-found : (c : Seen) (left found : MemoryValue) → left.boot ≡ c.boot → FoundAgain c.number left found → (out : Option Taken) (done : Option Accepted) → IsOut c left out done → IsOut c found out done
+out-found c left found boot f None None is = claim-found c left found boot f ∙ is
+out-found c left found boot f None (Some done) is = is
+out-found c left found boot f (Some span) None is =
+    (is.0, claiming-found c left found is.0 span boot f is.1, handed-found c.number left found is.0 span f is.2)
+out-found c left found boot f (Some span) (Some done) is =
+    (is.0, claiming-found c left found is.0 span boot f is.1, brings-found c.number left found is.0 span done.calls done.end f is.2)
+
+-- a processor stands before the memory as it finds it again
+pub found-standing : (c : Seen) (left found : MemoryValue) → Stands c left → FoundAgain c.number left found → Stands c found
+found-standing c left found s f = record {
+  same = f.boot ∙ s.same;
+  booted = s.booted;
+  cpu = s.cpu;
+  ranged = s.ranged;
+  few = s.few;
+  mine = ap (entries_by c.number) f.longer ∙ entries-stay c.number left.entries f.rest f.others ∙ s.mine;
+  named = s.named;
+  rises = s.rises;
+  follows = follows-found c left.entries found.entries f.rest f.longer s.follows;
+  out = out-found c left found s.same f c.out c.done s.out;
+  port = s.port;
+  spent = s.spent;
+}

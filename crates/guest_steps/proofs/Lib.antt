@@ -1,0 +1,10 @@
+pub mod AccountLemmas
+pub mod AmongLemmas
+pub mod BeginningLemmas
+pub mod FinishedLemmas
+pub mod FoundLemmas
+pub mod HistoryLemmas
+pub mod SortLemmas
+pub mod StampLemmas
+pub mod StepLemmas
+pub mod TogetherLemmas
