@@ -1,0 +1,17 @@
+pub mod NeedLemmas
+pub mod KeptLemmas
+pub mod ReportLemmas
+pub mod RoomLemmas
+pub mod StandLemmas
+pub mod NextLemmas
+pub mod ToldLemmas
+pub mod CourseLemmas
+pub mod ResultLemmas
+pub mod RoomAloneLemmas
+pub mod MemoryLemmas
+pub mod ClaimLemmas
+pub mod SpanLemmas
+pub mod ReportedLemmas
+pub mod WorkLemmas
+pub mod Sent
+pub mod NothingLemmas

@@ -1,0 +1,198 @@
+use Rattle.std.proofs.Common.{◌≡◌, ℕ, ◌+◌, ◌≤◌, Option, None, Some, List, [], ◌∷◌, ◌++◌, refl, sym, ◌∙◌, ap, subst, arith, append-nil}
+use Rattle.std.specs.Prelude.{drop, length, sum_by, ◌*◌, ◌-◌}
+use Rattle.std.proofs.lemmas.List.Sums.{sum_by-cons}
+use Rattle.guest_base.specs.declared.memory.Pages.{Pages}
+use Rattle.guest_base.specs.declared.memory.Units.{Units}
+use Rattle.event_core.specs.declared.boot.Boot.{Boot}
+use Rattle.event_core.specs.declared.module_call.ModuleCall.{ModuleCall}
+use Rattle.event_core.specs.Claims.{Claimed}
+use Rattle.event_core.specs.MemoryRows.{pages_count}
+use Rattle.page_module.specs.Spans.{Taken}
+use Rattle.page_module.specs.declared.ticket.Ticket.{Ticket}
+use Rattle.accept_sizes.specs.Accepts.{Accepts}
+use Rattle.accept_sizes.specs.Room.{most_calls_of}
+use Rattle.memory_core.specs.Steps.{pages_of}
+use Rattle.memory_core.specs.Value.{MemoryValue}
+use Rattle.guest_steps.specs.Replies.{calls_reported}
+use Rattle.guest_steps.specs.Seen.{Accepted, STEPS, command_number, left_by}
+use Rattle.guest_base.specs.declared.limits.TheConstants.{PAGE_END}
+use Rattle.guest_steps.specs.Standing.{Claiming, IsOut, StopTold, unreported}
+use Rattle.guest_cpu.specs.Kept.{most_of}
+use Rattle.guest_cpu.specs.Progressing.{Progressed}
+use Rattle.guest_cpu.specs.Standing.{CourseStands, RunsAre, calls_owed, seen_with}
+use Rattle.guest_cpu.specs.Working.{Accepting, Asked, DoesOwed, Resting, most_owed}
+use Rattle.guest_cpu.proofs.ToldLemmas.{rose-from, rose-on, told-on}
+
+-- What the work makes of a processor that stands.
+
+-- ---- the runs that are owed
+
+pub record FirstOut (boot : Boot) (span : Taken) (runs : List Units) : Type 0 where
+  pub run : Units
+  pub later : List Units
+  pub are : runs ≡ run ∷ later
+  pub pages : span.ticket.pages.count ≡ pages_count boot run
+
+first-by : (boot : Boot) (claim : Claimed) (span : Taken) (runs : List Units) → RunsAre boot claim runs → span.ticket.pages ≡ pages_of boot claim.run → FirstOut boot span runs
+first-by boot claim span [] are is = absurd are
+first-by boot claim span (run ∷ later) are is = record { run = run; later = later; are = refl; pages = ap (λ (p : Pages). p.count) is ∙ ap (pages_count boot) (sym are.0) }
+
+-- a span that is out is for the first run
+pub first-out : (p : Progressed) (made_before made : List ModuleCall) (faults_before faults kept : ℕ) (memory : MemoryValue) (span : Taken) → CourseStands p made_before made faults_before faults kept memory → IsOut (seen_with p made_before made faults_before faults) memory (Some span) None → FirstOut p.boot span p.runs
+first-out p made_before made faults_before faults kept memory span s is_out =
+    let has = is_out.2.has in
+    let pages : span.ticket.pages ≡ pages_of p.boot is_out.0.run = has.pages ∙ ap (λ (b : Boot). pages_of b is_out.0.run) s.stands.same in
+    first-by p.boot is_out.0 span p.runs (s.runs is_out.0 is_out.1.claimed) pages
+
+first-sum : (boot : Boot) (span : Taken) (runs : List Units) → FirstOut boot span runs → sum_by (most_of boot) runs ≡ most_calls_of span.ticket.pages.count + sum_by (most_of boot) (drop 1 runs)
+first-sum boot span runs f =
+    let S : List Units → Type 0 = λ rs. sum_by (most_of boot) rs ≡ most_calls_of span.ticket.pages.count + sum_by (most_of boot) (drop 1 rs) in
+    let same = ap most_calls_of f.pages in
+    let cons = sum_by-cons (most_of boot) f.run f.later in
+    subst S (sym f.are) (let e : sum_by (most_of boot) (f.run ∷ f.later) ≡ most_calls_of span.ticket.pages.count + sum_by (most_of boot) f.later = cons ∙ ap (λ n. n + sum_by (most_of boot) f.later) (sym same) in e)
+
+-- ---- what the call asks
+
+pub fits-first : (p : Progressed) (made_before made : List ModuleCall) (faults_before faults kept : ℕ) (memory : MemoryValue) (out : Option Taken) (done : Option Accepted) → CourseStands p made_before made faults_before faults kept memory → p.out ≡ out → p.done ≡ done → IsOut (seen_with p made_before made faults_before faults) memory out done → most_owed out done ≤ kept
+fits-first p made_before made faults_before faults kept memory None told s is_out is_done out = omega arith
+fits-first p made_before made faults_before faults kept memory (Some span) (Some told) s is_out is_done out = omega arith
+fits-first p made_before made faults_before faults kept memory (Some span) None s is_out is_done out =
+    let sum = first-sum p.boot span p.runs (first-out p made_before made faults_before faults kept memory span s out) in
+    let O : Option Accepted → Type 0 = λ d. calls_owed p.boot d p.runs ≤ kept in
+    let owed : sum_by (most_of p.boot) p.runs ≤ kept = subst O is_done s.port in
+    omega (arith, sum, owed)
+
+-- ---- faults that rise
+
+stop-on : (before mid after : ℕ) (done : Option Accepted) → before ≤ mid → mid ≤ after → StopTold before done mid → StopTold before done after
+stop-on before mid after None le on told = tt
+stop-on before mid after (Some accepted) le on told = λ some. rose-on before mid after le on (told some)
+
+module _ (p q : Progressed) (made_before made made_then : List ModuleCall) (faults_before faults faults_then kept more : ℕ) (memory : MemoryValue) (s : CourseStands p made_before made faults_before faults kept memory) (on : faults ≤ faults_then) where
+  abbrev port : Asked
+  port = record { made_before = made; made = made_then; faults_before = faults; faults = faults_then; room_before = kept; room = more }
+
+  -- where nothing is owed
+  resting : Resting p q port → CourseStands q made_before made_then faults_before faults_then more memory
+  resting r =
+      let Q : Progressed → Type 0 = λ x. CourseStands x made_before made_then faults_before faults_then more memory in
+      let t = s.stands.port in
+      let st = s.stands in
+      let low = t.faults in
+      let owed = s.port in
+      let room = r.quiet.room in
+      subst Q (sym r.same) (record {
+        stands = record {
+          same = st.same;
+          booted = st.booted;
+          cpu = st.cpu;
+          ranged = st.ranged;
+          few = st.few;
+          mine = st.mine;
+          named = st.named;
+          rises = st.rises;
+          follows = st.follows;
+          out = out-on p.out p.done st.out;
+          port = record {
+            made = r.quiet.made ∙ t.made;
+            faults = omega (arith, low, on);
+            failed = told-on p.entries faults_before faults faults_then low on t.failed;
+            stopped = stop-on faults_before faults faults_then p.done low on t.stopped;
+          };
+          spent = st.spent;
+        };
+        runs = s.runs;
+        port = omega (arith, owed, room);
+      })
+    where
+      claiming-on : (claim : Claimed) (span : Taken) → Claiming (seen_with p made_before made faults_before faults) memory claim span → Claiming (seen_with p made_before made_then faults_before faults_then) memory claim span
+      claiming-on claim span c = record {
+        claimed = c.claimed;
+        handed = c.handed;
+        is_handed = c.is_handed;
+        ticket = c.ticket;
+        some = c.some;
+        start = c.start;
+        len = c.len;
+        command = c.command;
+        fine = c.fine;
+        clock = c.clock;
+      }
+
+      out-on : (out : Option Taken) (done : Option Accepted) → IsOut (seen_with p made_before made faults_before faults) memory out done → IsOut (seen_with p made_before made_then faults_before faults_then) memory out done
+      out-on None None is = is
+      out-on None (Some told) is = is
+      out-on (Some span) None is = (is.0, claiming-on is.0 span is.1, is.2)
+      out-on (Some span) (Some told) is = (is.0, claiming-on is.0 span is.1, is.2)
+
+  -- where the span was worked on
+  accepting : (span : Taken) → p.out ≡ Some span → p.done ≡ None → IsOut (seen_with p made_before made faults_before faults) memory (Some span) None → Accepting p q span port → CourseStands q made_before made_then faults_before faults_then more memory
+  accepting span is_out is_done out a =
+      let d : Accepted = record { calls = a.calls; end = a.end } in
+      let new : Progressed = record p { out = Some a.accepted; done = Some d } in
+      let Q : Progressed → Type 0 = λ x. CourseStands x made_before made_then faults_before faults_then more memory in
+      let t = s.stands.port in
+      let st = s.stands in
+      let low = t.faults in
+      let c = out.1 in
+      let h = out.2 in
+      let H : Boot → Type 0 = λ b. Accepts b.hosts span a.accepted a.calls in
+      let sum = first-sum p.boot span p.runs (first-out p made_before made faults_before faults kept memory span s out) in
+      let O : Option Accepted → Type 0 = λ x. calls_owed p.boot x p.runs ≤ kept in
+      let owed : sum_by (most_of p.boot) p.runs ≤ kept = subst O is_done s.port in
+      let room = a.by.room in
+      let ticket = a.by.accepts.ticket in
+      let L : Option Taken → Type 0 = λ o. length p.entries + left_by (length p.script) (command_number (seen_with p made_before made faults_before faults)) o ≤ length p.script * STEPS in
+      let T : Ticket → Type 0 = λ x. length p.entries + ((length p.script - (command_number (seen_with p made_before made faults_before faults) + 1)) * STEPS + 1 + (PAGE_END - x.pages.first)) ≤ length p.script * STEPS in
+      subst Q (sym a.course) (record {
+        stands = record {
+          same = st.same;
+          booted = st.booted;
+          cpu = st.cpu;
+          ranged = st.ranged;
+          few = st.few;
+          mine = st.mine;
+          named = st.named;
+          rises = st.rises;
+          follows = st.follows;
+          out = (
+            out.0,
+            record {
+              claimed = c.claimed;
+              handed = c.handed;
+              is_handed = c.is_handed;
+              ticket = c.ticket ∙ sym ticket;
+              some = c.some;
+              start = c.start;
+              len = c.len;
+              command = c.command;
+              fine = c.fine;
+              clock = c.clock;
+            },
+            record {
+              before = h.before;
+              rest = h.rest;
+              split = h.split;
+              others = h.others;
+              brings = record { taken = span; has = h.has; accepts = subst H (sym st.same) a.by.accepts; stop = a.by.stop };
+            },
+          );
+          port = record {
+            made = a.by.made ∙ ap (λ cs. cs ++ a.calls) (t.made ∙ ap (λ x. made_before ++ calls_reported p.entries ++ x) (ap unreported is_done) ∙ append-nil (made_before ++ calls_reported p.entries));
+            faults = omega (arith, low, on);
+            failed = told-on p.entries faults_before faults faults_then low on t.failed;
+            stopped = λ some. rose-from faults_before faults faults_then low (a.by.rose some);
+          };
+          spent = subst T (sym ticket) (subst L is_out st.spent);
+        };
+        runs = s.runs;
+        port = omega (arith, sum, owed, room);
+      })
+
+  does : (out : Option Taken) (done : Option Accepted) → p.out ≡ out → p.done ≡ done → IsOut (seen_with p made_before made faults_before faults) memory out done → DoesOwed out done p q port → CourseStands q made_before made_then faults_before faults_then more memory
+  does None told is_out is_done out d = resting d
+  does (Some span) (Some told) is_out is_done out d = resting d
+  does (Some span) None is_out is_done out d = accepting span is_out is_done out d
+
+  pub work-course : DoesOwed p.out p.done p q port → CourseStands q made_before made_then faults_before faults_then more memory
+  work-course d = does p.out p.done refl refl s.stands.out d

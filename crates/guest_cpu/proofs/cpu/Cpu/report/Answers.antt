@@ -1,0 +1,23 @@
+use Rattle.guest_cpu.proofs.ReportedLemmas.{report-all, worked-may}
+use Rattle.guest_cpu.proofs.cpu.Cpu.report.Goals as goal
+
+pub report-requires : goal.report-requires
+report-requires g c =
+    let cpu = c.args.self.now in
+    let w = worked-may cpu.progress (g.P.Port.made cpu.port_before.value) (g.P.Port.made cpu.port) (g.P.Port.faults cpu.port_before.value) (g.P.Port.faults cpu.port) (g.P.Port.room cpu.port) c.args.memory.now
+    c.requires.stands c.requires.out (c.requires.worked c.requires.out) in
+    record { may = w.may }
+
+pub returns-clause-stands : goal.returns-clause-stands
+returns-clause-stands g c =
+    let cpu = c.args.self.now in
+    let all = report-all cpu.progress c.report.new.self (g.P.Port.made cpu.port_before.value) (g.P.Port.made cpu.port) (g.P.Port.faults cpu.port_before.value) (g.P.Port.faults cpu.port) (g.P.Port.room cpu.port) c.args.memory.now c.report.new.memory
+    c.requires.stands c.requires.out (c.requires.worked c.requires.out) c.report.ensures in
+    all.stands
+
+pub returns-clause-makes : goal.returns-clause-makes
+returns-clause-makes g c =
+    let cpu = c.args.self.now in
+    let all = report-all cpu.progress c.report.new.self (g.P.Port.made cpu.port_before.value) (g.P.Port.made cpu.port) (g.P.Port.faults cpu.port_before.value) (g.P.Port.faults cpu.port) (g.P.Port.room cpu.port) c.args.memory.now c.report.new.memory
+    c.requires.stands c.requires.out (c.requires.worked c.requires.out) c.report.ensures in
+    all.makes

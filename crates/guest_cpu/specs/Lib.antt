@@ -1,0 +1,10 @@
+pub mod Made
+pub mod Progressing
+pub mod Kept
+pub mod Ranges
+pub mod Stepping
+pub mod Rooms
+pub mod Working
+pub mod Standing
+pub mod Found
+pub mod Resting

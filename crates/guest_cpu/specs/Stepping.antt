@@ -1,0 +1,207 @@
+use Rattle.std.specs.Prelude.{ℕ, List, [], ◌∷◌, ◌++◌, Option, None, Some, ◌≡◌, ◌≢◌, ◌+◌, ◌^◌, ◌≤◌, ◌<◌, drop, max}
+use Rattle.guest_base.specs.declared.memory.Units.{Units}
+use Rattle.event_core.specs.declared.entry.Entry.{Entry}
+use Rattle.event_core.specs.declared.entry.Place.TheVariants as place
+use Rattle.event_core.specs.declared.entry.Turn.{Turn}
+use Rattle.event_core.specs.declared.event.Event.{Event}
+use Rattle.event_core.specs.declared.event.Event.TheVariants as event
+use Rattle.event_core.specs.declared.module_call.ModuleCall.{ModuleCall}
+use Rattle.event_core.specs.declared.reply.Reply.{Reply}
+use Rattle.event_core.specs.declared.reply.Reply.TheVariants as reply
+use Rattle.event_core.specs.Acceptance.{stop_of}
+use Rattle.event_core.specs.Calls.{calls_of}
+use Rattle.event_core.specs.Claims.{Claimed, claim_of}
+use Rattle.event_core.specs.Legal.{greatest_stamp}
+use Rattle.event_core.specs.MemoryRows.{next_run, report_event}
+use Rattle.event_core.specs.Next.{claim_reply}
+use Rattle.event_core.specs.Own.{replied}
+use Rattle.event_core.specs.Units.{bit_after, guarded_units, units_end}
+use Rattle.accept_sizes.specs.Ends.{stopped_at}
+use Rattle.accept_sizes.specs.declared.accept.RunEnd.{RunEnd}
+use Rattle.memory_core.specs.Answers.{BegunBy, IsBlocked, OthersKeep, ReportedBy}
+use Rattle.memory_core.specs.Away.{MayReport}
+use Rattle.memory_core.specs.Bitmaps.{AreRunsFrom}
+use Rattle.memory_core.specs.Steps.{Appends, BringsTo, claim_of_units, last_stamp}
+use Rattle.memory_core.specs.Value.{MemoryValue}
+use Rattle.memory_core.specs.declared.memory.Begin.{Begin}
+use Rattle.memory_core.specs.declared.memory.Begin.TheVariants.{Clear, Claimed as IsClaimed, Blocked}
+use Rattle.memory_core.specs.declared.memory.Reported.{Reported}
+use Rattle.memory_core.specs.declared.memory.Reported.TheVariants.{Next, Closed, Stopped}
+use Rattle.page_module.specs.Spans.{LieInMemory, Taken}
+use Rattle.guest_steps.specs.Steps.{memory_after}
+use Rattle.guest_steps.specs.declared.processor.Stepped.{Stepped}
+use Rattle.guest_steps.specs.declared.processor.Stepped.TheVariants as stepped
+use Rattle.guest_cpu.specs.Made.{turn_of}
+use Rattle.guest_cpu.specs.Progressing.{Progressed, moved_in}
+use Rattle.guest_cpu.specs.Ranges.{refusal_in}
+
+-- What a step does to a processor's course.
+
+-- a processor of the memory's boot that has no open claim may step it: stamps are left
+pub record MayStep (p : Progressed) (memory : MemoryValue) : Type 0 where
+  pub same : memory.boot ≡ p.boot
+  pub cpu : p.number < p.boot.cpus
+  pub rests : p.out ≡ None
+  pub free : claim_of p.boot memory.entries p.number ≡ None
+  pub few : replied (moved_in p) < 2 ^ 32
+  pub clock : greatest_stamp (moved_in p) < 2 ^ 64
+  pub last : last_stamp memory.entries < 2 ^ 64
+
+-- nothing changed but the room for entries
+abbrev pub OnlyRoom : Progressed → Progressed → Type 0
+OnlyRoom old new = (new ≡ record old { room = new.room }) × (old.room ≤ new.room)
+
+-- an entry of the processor's present command that it makes by itself, and under the memory's lock
+abbrev pub own_entry : Progressed → Reply → Entry
+own_entry p refusal = record {
+  stamp = greatest_stamp (moved_in p) + 1;
+  cpu = record { 0 = p.number };
+  cmd = replied (moved_in p);
+  place = place.Own;
+  event = event.Own;
+  reply = Some refusal;
+}
+
+abbrev pub memory_entry : Progressed → MemoryValue → Event → Option Reply → Entry
+memory_entry p memory event reply = record {
+  stamp = max (greatest_stamp (moved_in p)) (last_stamp memory.entries) + 1;
+  cpu = record { 0 = p.number };
+  cmd = replied (moved_in p);
+  place = place.Memory;
+  event = event;
+  reply = reply;
+}
+
+-- the present command is refused by an entry
+pub record Refuses (old new : Progressed) : Type 0 where
+  pub refusal : Reply
+  pub is : refusal_in old ≡ Some refusal
+  pub after : new ≡ record old {
+    entries = old.entries ++ own_entry old refusal ∷ [];
+    room = new.room;
+  }
+
+-- a step of the memory made an entry with this event and this reply
+pub record Adds (old new : Progressed) (before after : MemoryValue) (event : Event)
+    (reply : Option Reply) : Type 0 where
+  pub boot : new.boot ≡ old.boot
+  pub number : new.number ≡ old.number
+  pub script : new.script ≡ old.script
+  pub entries : new.entries ≡ old.entries ++ memory_entry old before event reply ∷ []
+  pub same : after.boot ≡ before.boot
+  pub memory : after.entries ≡ memory_after before.entries (memory_entry old before event reply)
+  pub others : OthersKeep before after old.number
+
+-- the runs are those of unaccepted units among these, after the memory's entries
+abbrev pub AreRunsAmong : MemoryValue → Option Units → List Units → Type 0
+AreRunsAmong memory None runs = runs ≡ []
+AreRunsAmong memory (Some units) runs =
+    AreRunsFrom (bit_after memory.boot (calls_of memory.boot memory.entries))
+    units.first (units_end units) runs
+
+-- of runs, the first is gone on with where its pages are out in a span, and else none
+abbrev pub runs_with : Option Taken → List Units → List Units
+runs_with None runs = []
+runs_with (Some span) runs = runs
+
+abbrev pub first_of : List Units → Option Units
+first_of [] = None
+first_of (run ∷ later) = Some run
+
+-- an entry under the memory's lock, by the turn behind it
+abbrev pub entry_at : Turn → Event → Option Reply → Entry
+entry_at turned event reply = record {
+  stamp = turned.clock;
+  cpu = turned.cpu;
+  cmd = turned.cmd;
+  place = place.Memory;
+  event = event;
+  reply = reply;
+}
+
+-- the course goes on behind an entry with these runs, of which the first is out in the span, if any
+abbrev pub going_on : Progressed → Entry → Option Taken → List Units → ℕ → Progressed
+going_on p entry span runs room = record p {
+  entries = p.entries ++ entry ∷ [];
+  out = span;
+  done = None;
+  runs = runs;
+  room = room;
+}
+
+-- the span that a claim that isn't blocked took out, and the one with which a report goes on
+abbrev pub span_of_claim : Begin → Option Taken
+span_of_claim Clear = None
+span_of_claim (IsClaimed span) = Some span
+span_of_claim (Blocked met) = None
+
+abbrev pub span_of_report : Reported → Option Taken
+span_of_report (Next span) = Some span
+span_of_report (Closed count) = None
+span_of_report Stopped = None
+
+-- the reply of a command whose claim was closed by a report
+abbrev pub reply_of_report : Reported → Option Reply
+reply_of_report (Next span) = None
+reply_of_report (Closed count) = Some (reply.Count count)
+reply_of_report Stopped = Some reply.Module
+
+abbrev pub claim_made : Turn → Option Units → List Units → Entry
+claim_made turned units runs =
+    let run = first_of runs in
+    entry_at turned (event.Claim None units run) (claim_reply run)
+
+-- units were claimed, of which these are the unaccepted runs
+pub record ClaimMade (old new : Progressed) (before after : MemoryValue) (units : Option Units)
+    (span : Option Taken) (runs : List Units) (ended : Stepped) : Type 0 where
+  pub event : ended ≡ stepped.Event
+  pub turned : Turn
+  pub appends :
+      Appends before after (turn_of old.number old.entries) turned (claim_of_units before units)
+  pub course : new ≡ going_on old (claim_made turned units (runs_with span runs)) span
+      (runs_with span runs) new.room
+
+-- a claim was begun: it is blocked, or made
+pub record Begins (old new : Progressed) (before after : MemoryValue) (start len : ℕ)
+    (runs : List Units) (ended : Stepped) : Type 0 where
+  pub begin : Begin
+  pub begun : BegunBy before after (turn_of old.number old.entries)
+      (guarded_units before.boot start len) begin
+  pub blocked : IsBlocked begin
+      → (ended ≡ stepped.Blocked) × (new ≡ old) × (after ≡ before)
+  pub made : ¬ IsBlocked begin → ClaimMade old new before after
+      (guarded_units before.boot start len) (span_of_claim begin) runs ended
+  pub others : OthersKeep before after old.number
+
+-- a claim's run may be reported: calls were made for the span that is out
+pub record Reportable (p : Progressed) (memory : MemoryValue) : Type 0 where
+  pub span : Taken
+  pub out : p.out ≡ Some span
+  pub calls : List ModuleCall
+  pub end : RunEnd
+  pub done : p.done ≡ Some (record { calls = calls; end = end })
+  pub few : replied (moved_in p) < 2 ^ 32
+  pub may : MayReport memory (turn_of p.number p.entries) span calls end
+  pub next : (run : Units) → next_run memory.boot may.claim (stop_of calls) ≡ Some run
+      → drop 1 p.runs ≢ []
+
+-- the open run of a claim was reported, with the calls that were made for it
+pub record Reports (old new : Progressed) (before after : MemoryValue) (claim : Claimed)
+    (calls : List ModuleCall) (end : RunEnd) : Type 0 where
+  pub span : Taken
+  pub out : old.out ≡ Some span
+  pub low : LieInMemory span.ticket.pages
+  pub brings : BringsTo before.boot (calls_of before.boot before.entries) claim.run span calls end
+  pub run : Units
+  pub first : old.runs ≡ run ∷ drop 1 old.runs
+  pub turned : Turn
+  pub appends : Appends before after (turn_of old.number old.entries) turned
+      (report_event before.boot claim calls)
+  pub reported : Reported
+  pub by : ReportedBy before after (turn_of old.number old.entries) claim calls reported
+  pub course :
+      let span = span_of_report reported in
+      let later = runs_with span (drop 1 old.runs) in
+      let event = event.Report run calls (stopped_at end) (first_of later) in
+      new ≡ going_on old (entry_at turned event (reply_of_report reported)) span later new.room
+  pub others : OthersKeep before after old.number

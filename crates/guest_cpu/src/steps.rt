@@ -1,0 +1,248 @@
+//! The steps of a processor's course, for which room was taken.
+ghost use Rattle.std.specs.Prelude.{◌≡◌, ◌≢◌, [], ◌∷◌, ◌++◌, ◌+◌, ◌^◌, ◌<◌, ◌≤◌, None, Some, All, List, length, OnOk, OnErr, IsTrue, ◌↔◌, ℕ, map};
+ghost use Rattle.std.specs.Option.{option_map};
+ghost use Rattle.event_core.specs.declared.command.Command.TheVariants.{Accept, Query};
+ghost use Rattle.event_core.specs.declared.event.Event.TheVariants.{Asked};
+ghost use Rattle.event_core.specs.declared.reply.Reply.TheVariants as reply;
+ghost use Rattle.event_core.specs.declared.module_call.ModuleCall.{ModuleCall};
+ghost use Rattle.event_core.specs.Claims.{Claimed, claim_of};
+ghost use Rattle.event_core.specs.Legal.{greatest_stamp};
+ghost use Rattle.event_core.specs.MemoryRows.{some_unaccepted};
+ghost use Rattle.event_core.specs.Own.{replied};
+ghost use Rattle.event_core.specs.Refusals.{memory_range_refusal};
+ghost use Rattle.event_core.specs.Units.{guarded_units};
+ghost use Rattle.accept_sizes.specs.declared.accept.RunEnd.{RunEnd};
+ghost use Rattle.memory_core.specs.Steps.{unaccepted_count};
+ghost use Rattle.guest_steps.specs.declared.processor.Need.TheVariants as need;
+ghost use Rattle.guest_cpu.specs.Progressing.{moved_in, command_of, need_in};
+ghost use Rattle.guest_cpu.specs.Ranges.{as_command, refusal_in};
+ghost use Rattle.guest_cpu.specs.Kept.{HasRoom, runs_in};
+ghost use Rattle.guest_cpu.specs.Stepping.{Adds, AreRunsAmong, Begins, MayStep, OnlyRoom, Refuses, Reportable, Reports, claim_made, going_on, runs_with};
+
+use crate::answers::{after_report, reply_of_claim};
+use crate::progress::{Progress, RunRoom};
+use crate::ranges::Ranged;
+use crate::runs::{Worked, go_on, worked_run};
+use event_core::{Entry, Event, NoRoom, Place, Reply, Turn};
+use guest_base::Units;
+use guest_steps::{Need, Stepped};
+use memory_core::{Begin, Memory, stopped_page};
+use page_module::Span;
+use std::alloc::{AllocError, Global};
+use std::collections::VecDeque;
+
+impl Progress {
+    /// The present command; None where all have their reply.
+    pub(crate) fn present(&self) -> Option<Ranged>
+        ensures { command_of self.now ≡ option_map as_command result }
+    {
+        let number = self.made.replies();
+        if number < self.script.len() {
+            Some(Ranged::of(self.script.get(number)))
+        } else {
+            None
+        }
+    }
+
+    /// The refusal of the present command, if it is refused.
+    pub(crate) fn refusal(&self) -> Option<Reply>
+        ensures { result ≡ refusal_in self.now }
+    {
+        match self.present() {
+            Some(command) => command.refusal(),
+            None => None,
+        }
+    }
+
+    /// What the next step needs.
+    pub(crate) fn next_need(&self) -> Need
+        ensures { result ≡ need_in self.now }
+    {
+        if self.open_run.is_some() {
+            return Need::Memory;
+        }
+        match self.present() {
+            Some(command) => match command.refusal() {
+                Some(_) => Need::Own,
+                None => Need::Memory,
+            },
+            None => Need::Finished,
+        }
+    }
+
+    /// Whether a claim is open, whose run is out.
+    pub(crate) fn is_claiming(&self) -> bool
+        ensures { IsTrue result ↔ (self.now.out ≢ None) }
+    {
+        self.open_run.is_some()
+    }
+
+    /// The greatest stamp of the entries.
+    pub(crate) fn clock(&self) -> u128
+        ensures { result ≡ greatest_stamp (moved_in self.now) }
+    {
+        self.made.clock()
+    }
+
+    /// Takes room for `count` more entries.
+    pub(crate) fn reserve(&mut self, count: u64) -> Result<(), AllocError>
+        ensures ok { OnOk result (count ≤ self.new.room) }
+        ensures same { OnlyRoom self.old self.new }
+    {
+        self.made.reserve(count)
+    }
+
+    /// Refuses the present command, which is refused.
+    pub(crate) fn refuse(&mut self) -> Result<(), NoRoom>
+        requires need { need_in self.old ≡ need.Own }
+        requires few { replied (moved_in self.old) < 2 ^ 32 }
+        ensures refuses { OnOk result (Refuses self.old self.new) }
+        ensures failed { OnErr result (OnlyRoom self.old self.new) }
+        ensures worn { (stamp : ℕ) → result ≡ Err (NoRoom.Worn stamp)
+            → (2 ^ 64 ≤ stamp) × (stamp ≡ greatest_stamp (moved_in self.old)) }
+        ensures worn_first { 2 ^ 64 ≤ greatest_stamp (moved_in self.old)
+            → result ≡ Err (NoRoom.Worn (greatest_stamp (moved_in self.old))) }
+    {
+        let clock = self.made.clock();
+        if clock >= 1 << 64 {
+            return Err(NoRoom::Worn(clock));
+        }
+        let refusal = self.refusal();
+        if self.made.reserve(1).is_err() {
+            return Err(NoRoom::NoMemory);
+        }
+        let turn = self.made.turn(self.number);
+        self.made.add(Entry {
+            stamp: clock + 1,
+            cpu: turn.cpu,
+            cmd: turn.cmd,
+            place: Place::Own,
+            event: Event::Own,
+            reply: refusal,
+        });
+        Ok(())
+    }
+
+    /// Tells whether a range of memory has an unaccepted unit: the present command, for which there is room.
+    pub(crate) fn query(&mut self, memory: &mut Memory, start: u64, len: u64)
+        requires command { command_of self.old ≡ Some (Query start len) }
+        requires fine { memory_range_refusal start len ≡ None }
+        requires may { MayStep self.old memory.old }
+        requires room { 0 < self.old.room }
+        requires memory_room { 0 < memory.old.room }
+        ensures adds { let found = some_unaccepted self.old.boot memory.old.entries
+            (guarded_units self.old.boot start len) in
+            Adds self.old self.new memory.old memory.new (Asked found) (Some (reply.Query found)) }
+        ensures same { self.new ≡ record self.old {
+          entries = self.new.entries;
+          room = self.new.room;
+        } }
+    {
+        let mut turn = self.made.turn(self.number);
+        let found = memory.query(&mut turn, start, len);
+        self.made.add(Entry {
+            stamp: turn.clock,
+            cpu: turn.cpu,
+            cmd: turn.cmd,
+            place: Place::Memory,
+            event: Event::Asked { found },
+            reply: Some(Reply::Query(found)),
+        });
+    }
+
+    /// Claims the guarded units of a range, for whose unaccepted runs there is room: the present command.
+    pub(crate) fn begin(
+        &mut self,
+        memory: &mut Memory,
+        start: u64,
+        len: u64,
+        rooms: VecDeque<RunRoom>,
+    ) -> Stepped
+        requires fine { memory_range_refusal start len ≡ None }
+        requires may { MayStep self.old memory.old }
+        requires room { length rooms.items < self.old.room }
+        requires rooms { All (HasRoom self.old.boot) rooms.items }
+        requires runs { AreRunsAmong memory.old
+            (guarded_units memory.old.boot start len) (runs_in rooms.items) }
+        requires memory_room { unaccepted_count memory.old.boot memory.old.entries
+            (guarded_units memory.old.boot start len) < memory.old.room }
+        ensures { Begins self.old self.new memory.old memory.new
+            start len (runs_in rooms.items) result }
+    {
+        let units = memory.claim_units(start, len);
+        let mut turn = self.made.turn(self.number);
+        match memory.begin_accept(&mut turn, start, len) {
+            Begin::Blocked(_) => Stepped::Blocked,
+            Begin::Clear => self.claim(turn, units, None, rooms),
+            Begin::Claimed(span) => self.claim(turn, units, Some(span), rooms),
+        }
+    }
+
+    /// Adds the entry of a claim, of whose runs the first is out in the span, if any.
+    fn claim(
+        &mut self,
+        turn: Turn,
+        units: Option<Units>,
+        span: Option<Span>,
+        rooms: VecDeque<RunRoom>,
+    ) -> Stepped
+        requires rests { self.old.out ≡ None }
+        requires some { span ≢ None → rooms.items ≢ [] }
+        requires room { length rooms.items < self.old.room }
+        requires rooms { All (HasRoom self.old.boot) rooms.items }
+        ensures event { result ≡ Stepped.Event }
+        ensures course { let runs = runs_with span (runs_in rooms.items) in
+            self.new ≡ going_on self.old (claim_made turn units runs) span runs self.new.room }
+    {
+        let mut rooms = rooms;
+        let run = go_on(&mut self.open_run, &mut rooms, span);
+        self.later = rooms;
+        self.made.add(Entry {
+            stamp: turn.clock,
+            cpu: turn.cpu,
+            cmd: turn.cmd,
+            place: Place::Memory,
+            event: Event::Claim {
+                block: None,
+                units,
+                run,
+            },
+            reply: reply_of_claim(run),
+        });
+        Stepped::Event
+    }
+
+    /// Reports the open run, which was worked on.
+    pub(crate) fn report(&mut self, memory: &mut Memory)
+        requires may { Reportable self.old memory.old }
+        ensures { (calls : List ModuleCall) (end : RunEnd)
+            → self.old.done ≡ Some (record { calls = calls; end = end })
+            → (claim : Claimed)
+            → claim_of memory.old.boot memory.old.entries self.old.number ≡ Some claim
+            → Reports self.old self.new memory.old memory.new claim calls end }
+    {
+        let Worked {
+            run,
+            span,
+            calls,
+            copy,
+            end,
+        } = worked_run(self.open_run.take());
+        let mut turn = self.made.turn(self.number);
+        let (span, reply) = after_report(memory.report(&mut turn, span, calls, end));
+        let next = go_on(&mut self.open_run, &mut self.later, span);
+        self.made.add(Entry {
+            stamp: turn.clock,
+            cpu: turn.cpu,
+            cmd: turn.cmd,
+            place: Place::Memory,
+            event: Event::Report {
+                run,
+                calls: copy,
+                stopped: stopped_page(end),
+                next,
+            },
+            reply,
+        });
+    }
+}
