@@ -1,0 +1,10 @@
+pub mod EndLemmas
+pub mod GoOnLemmas
+pub mod LaterLemmas
+pub mod ListLemmas
+pub mod RestLemmas
+pub mod RoundLemmas
+pub mod StandLemmas
+pub mod TakenLemmas
+pub mod TurnLemmas
+pub mod WalkLemmas

@@ -1,0 +1,81 @@
+use Rattle.std.proofs.Common.{◌≡◌, ◌≢◌, ℕ, zero, suc, ◌+◌, ◌<◌, Bool, true, false, Some, Ok, List, [], ◌∷◌, ◌++◌, length, refl, sym, ◌∙◌, ap, subst, inl, inr, ◌⊎◌, arith, append-nil, append_assoc, slice_get}
+use Rattle.std.specs.Prelude.{Result}
+use Rattle.std.specs.declared.alloc.AllocError.{AllocError}
+use Rattle.std.proofs.lemmas.Option.{slice_get_within}
+use Rattle.event_core.specs.declared.boot.Boot.{Boot}
+use Rattle.event_core.specs.declared.entry.Entry.{Entry}
+use Rattle.event_core.specs.Turns.{numbers_from, rounds_of}
+use Rattle.memory_core.specs.Value.{MemoryValue}
+use Rattle.guest_steps.specs.Running.{AllFinished}
+use Rattle.guest_steps.specs.Seen.{Seen}
+use Rattle.guest_steps.specs.Standing.{Together}
+use Rattle.guest_steps.proofs.AmongLemmas.{got-set}
+use Rattle.guest_turns.specs.Walks.{Rests, RestsAt, all_left}
+use Rattle.guest_turns.proofs.RestLemmas.{all-finished, finished-none_left, some-left}
+
+-- A round.
+
+-- ---- its numbers
+
+numbers-push : (from count : ℕ) → numbers_from from (count + 1) ≡ numbers_from from count ++ (from + count) ∷ []
+numbers-push from zero = ap (λ n. n ∷ []) (let is : from ≡ from + 0 = omega arith in is)
+numbers-push from (suc count) =
+    let long : suc count + 1 ≡ suc (count + 1) = omega arith in
+    let last : from + 1 + count ≡ from + suc count = omega arith in
+    ap (numbers_from from) long
+    ∙ ap (λ ns. from ∷ ns) (numbers-push (from + 1) count)
+    ∙ ap (λ n. from ∷ (numbers_from (from + 1) count ++ n ∷ [])) last
+
+pub numbers-next : (cpu : ℕ) → numbers_from 0 (cpu + 1) ≡ numbers_from 0 cpu ++ cpu ∷ []
+numbers-next cpu = numbers-push 0 cpu ∙ ap (λ n. numbers_from 0 cpu ++ n ∷ []) (let is : 0 + cpu ≡ cpu = omega arith in is)
+
+-- one more round
+rounds-push : (cpus rounds : ℕ) → rounds_of cpus rounds ++ numbers_from 0 cpus ≡ rounds_of cpus (suc rounds)
+rounds-push cpus zero = sym (append-nil (numbers_from 0 cpus))
+rounds-push cpus (suc rounds) =
+    append_assoc (numbers_from 0 cpus) (rounds_of cpus rounds) (numbers_from 0 cpus) ∙ ap (λ ns. numbers_from 0 cpus ++ ns) (rounds-push cpus rounds)
+
+pub rounds-next : (order : List ℕ) (cpus all rounds : ℕ) → all ≡ cpus → (order ++ rounds_of cpus rounds) ++ numbers_from 0 all ≡ order ++ rounds_of cpus (suc rounds)
+rounds-next order cpus all rounds is =
+    ap (λ n. (order ++ rounds_of cpus rounds) ++ numbers_from 0 n) is
+    ∙ append_assoc order (rounds_of cpus rounds) (numbers_from 0 cpus)
+    ∙ ap (λ ns. order ++ ns) (rounds-push cpus rounds)
+
+-- ---- what it makes
+
+-- So far an entry was made, or each processor up to here rests.
+abbrev pub SoFar : ℕ → List Seen → List Seen → List Entry → Type 0
+SoFar cpu old new memory =
+    (all_left new < all_left old)
+    ⊎ ((all_left new ≡ all_left old) × ((k : ℕ) (c : Seen) → k < cpu → slice_get new k ≡ Some c → Rests c memory))
+
+pub so_far-first : (all : List Seen) (memory : List Entry) → SoFar 0 all all memory
+so_far-first all memory = inr (refl, λ k c below at. absurd (omega (arith, below)))
+
+after-event : (cpu : ℕ) (old mid new : List Seen) (before after : List Entry) → all_left new < all_left mid → SoFar cpu old mid before → SoFar (cpu + 1) old new after
+after-event cpu old mid new before after less (inl some) = inl (omega (arith, less, some))
+after-event cpu old mid new before after less (inr (same, rests)) = inl (omega (arith, less, same))
+
+after-rest : (cpu : ℕ) (old mid new : List Seen) (before after : MemoryValue) → RestsAt cpu mid new before after → SoFar cpu old mid before.entries → SoFar (cpu + 1) old new after.entries
+after-rest cpu old mid new before after r (inl some) = let left = r.left in inl (omega (arith, some, left))
+after-rest cpu old mid new before after r (inr (same, rests)) =
+    inr (r.left ∙ same, λ k c below at. by_place k c below (got-set mid cpu r.now k c (sym (ap (λ xs. slice_get xs k) r.others) ∙ at)))
+  where
+    by_place : (k : ℕ) (c : Seen) → k < cpu + 1 → ((k ≡ cpu) × (c ≡ r.now)) ⊎ ((k ≢ cpu) × (slice_get mid k ≡ Some c)) → Rests c after.entries
+    by_place k c below (inl (here, is)) = subst (λ d. Rests d after.entries) (sym is) r.rests
+    by_place k c below (inr (other, at)) = subst (λ es. Rests c es) (sym r.entries) (rests k c (omega (arith, below, other)) at)
+
+pub so_far-push : (made : Bool) (result : Result Bool AllocError) (cpu : ℕ) (old mid new : List Seen) (before after : MemoryValue) → result ≡ Ok made
+    → (result ≡ Ok true → all_left new < all_left mid) → (result ≡ Ok false → RestsAt cpu mid new before after) → SoFar cpu old mid before.entries → SoFar (cpu + 1) old new after.entries
+so_far-push true result cpu old mid new before after is event none so_far = after-event cpu old mid new before.entries after.entries (event is) so_far
+so_far-push false result cpu old mid new before after is event none so_far = after-rest cpu old mid new before after (none is) so_far
+
+-- a whole round makes an entry, where a processor isn't finished
+pub round-less : (boot : Boot) (old new : List Seen) (memory : MemoryValue) (cpus : ℕ) → Together boot new memory → length new ≡ cpus → SoFar cpus old new memory.entries
+    → (AllFinished old → ⊥) → all_left new < all_left old
+round-less boot old new memory cpus t long (inl some) unfinished = some
+round-less boot old new memory cpus t long (inr (same, rests)) unfinished =
+    let finished = all-finished boot new memory t (λ k c at. rests k c (let within = slice_get_within new k c at in omega (arith, within, long)) at) in
+    let none = finished-none_left new finished in
+    let some = some-left old unfinished in
+    absurd (omega (arith, none, some, same))

@@ -1,0 +1,27 @@
+use Rattle.std.proofs.Common.{◌<◌, ◌∷◌, [], map, take, get_or, length, subst, arith}
+use Rattle.guest_base.specs.declared.memory.CpuNo.{CpuNo}
+use Rattle.guest_turns.specs.Walks.{WalksOn}
+use Rattle.guest_turns.proofs.GoOnLemmas.{go_on-then, numbers-more, walks-then}
+use Rattle.guest_turns.proofs.run.in_order.Goals as goal
+
+pub loop-cpu-preserved : goal.loop-cpu-preserved
+loop-cpu-preserved g c =
+    let seen = g.T.Processor.seen in
+    let old = c.args.processors.now.items in
+    let mid = c.loop-cpu.processors.items in
+    let new = c.turn.new.processors.items in
+    let before = c.args.memory.now in
+    let between = c.loop-cpu.memory in
+    let after = c.turn.new.memory in
+    let inv = c.loop-cpu.invariant in
+    let e = c.in_ok-turn.ensures in
+    let items = c.as_slice-cpu-items.result.now in
+    let k = c.loop-cpu.cpu-index in
+    let none : CpuNo = record { 0 = 0 } in
+    let some = map (λ (cpu : CpuNo). cpu.0) (take k c.args.order.now) in
+    let within : k < length items = omega arith in
+    record {
+      go_on = go_on-then seen g.T.Processor.stands g.T.Processor.never_fails old mid new before between after inv.go_on e.go_on;
+      walk = subst (λ turns. WalksOn turns (map seen old) (map seen new) before after) (numbers-more items c.args.order.now k none c.as_slice-cpu-items.ensures within)
+          (walks-then some ((get_or items k none).0 ∷ []) (map seen old) (map seen mid) (map seen new) before between after inv.go_on.stand.together.same inv.walk e.walk);
+    }
