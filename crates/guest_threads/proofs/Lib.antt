@@ -1,0 +1,5 @@
+mod LockLemmas
+mod PlaceLemmas
+mod RunLemmas
+mod SeatLemmas
+mod Sent
