@@ -9,6 +9,8 @@ use guest_run::top;
 use page_module::{MemPort, Port};
 use std::alloc::{AllocError, Global};
 use std::process::ExitCode;
+use std::sync::Wait;
+use std::thread::Threads;
 use std::{env, io};
 
 /// The status where memory runs out.
@@ -36,17 +38,24 @@ fn make_ports(alloc: Global) -> Result<Vec<MemPort>, AllocError>
     Ok(ports)
 }
 
-/// Does what the words say, and tells the status.
-fn run(rt: HostRuntime) -> Result<u8, AllocError> {
+/// Does what the words say, with threads from the handle where they ask for them, and tells the status.
+fn run<R: Threads + Wait + Sync>(rt: HostRuntime, handle: &R) -> Result<u8, AllocError> {
     let alloc = rt.alloc();
     let words = words_of(rt)?;
     let mut ports = make_ports(alloc)?;
     let mut files = RealFiles::new(alloc, rt);
     let mut out = RealSink::new(rt);
-    let ended = top(alloc, words.as_slice(), &mut files, &mut out, &mut ports);
+    let ended = top(
+        handle,
+        alloc,
+        words.as_slice(),
+        &mut files,
+        &mut out,
+        &mut ports,
+    );
     Ok(ended.status)
 }
 
 fn main(rt: HostRuntime) -> ExitCode {
-    ExitCode::from(run(rt).unwrap_or(NO_MEMORY))
+    ExitCode::from(run(rt, &rt).unwrap_or(NO_MEMORY))
 }

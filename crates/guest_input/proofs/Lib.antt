@@ -1,4 +1,4 @@
-pub mod ScriptLemmas
 pub mod RunnableLemmas
 pub mod InputLemmas
+pub mod ScriptLemmas
 pub mod RefusedLemmas

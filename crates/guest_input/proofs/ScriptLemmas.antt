@@ -1,61 +1,130 @@
-use Rattle.std.proofs.Common.{◌≡◌, ℕ, ◌+◌, ◌<◌, ◌≤◌, Bool, true, false, cond, List, [], ◌∷◌, ◌++◌, length, Result, Ok, Err, refl, sym, ◌∙◌, ap, subst, inl, inr, arith}
-use Rattle.std.specs.Prelude.{◌==◌, IfOk, nat_le, nat_lt, sum_by}
-use Rattle.std.specs.List.{slice_split}
-use Rattle.std.proofs.lemmas.Bool.{cases_Bool}
-use Rattle.std.proofs.lemmas.Bool.Decides.{nat_tests}
-use Rattle.std.proofs.lemmas.List.{length_push}
+use Rattle.std.proofs.Common.{◌≡◌, ℕ, zero, suc, ◌+◌, ◌<◌, ◌≤◌, ◌⊎◌, List, [], ◌∷◌, ◌++◌, length, Option, None, Some, refl, sym, ◌∙◌, ap, subst, inl, inr, ⊎_elim, arith, append_assoc, append-nil, take}
+use Rattle.std.specs.Prelude.{All, slice_get, unwrap_or}
+use Rattle.std.proofs.lemmas.Bool.{cases_lt}
+use Rattle.std.proofs.lemmas.List.{length_push, take_all, take_more}
+use Rattle.std.proofs.lemmas.List.Elements.{All-nil, All-push}
+use Rattle.std.proofs.lemmas.Option.{unwrap_or-slice_get}
+use Rattle.guest_base.specs.declared.memory.CpuNo.{CpuNo}
+use Rattle.guest_io.proofs.CountLemmas.{Rose-after}
 use Rattle.event_core.specs.declared.command.Command.{Command}
-use Rattle.event_core.specs.ReadableScript.{bytes_named}
-use Rattle.guest_script.specs.declared.fault.ScriptFault.{ScriptFault}
-use Rattle.guest_script.specs.declared.fault.ScriptFault.TheVariants as fault
-use Rattle.guest_script.specs.Commands.{command_of}
-use Rattle.guest_script.specs.Script.{at_line, followed_by, line_words, with_command, with_words, with_line, with_lines, script_of}
+use Rattle.guest_words.specs.Words.{Named, cpus_in}
+use Rattle.guest_input.specs.declared.stop.InputFile.TheVariants.{Script}
+use Rattle.guest_input.specs.declared.stop.Stop.{Stop}
+use Rattle.guest_input.specs.declared.stop.Stop.TheVariants.{Refused, NotRead, Module, NoMemory}
+use Rattle.guest_input.specs.Asked.{Asks}
+use Rattle.guest_input.specs.Causes.{cause_of, IsGood}
+use Rattle.guest_input.specs.Files.{AreScriptsOf, IsEachOf, IsScriptOf}
+use Rattle.guest_input.specs.Reading.{Reading}
+use Rattle.guest_input.specs.Runnable.{IsRunnable}
+use Rattle.guest_input.specs.Stops.{name_of}
+use Rattle.guest_input.specs.Stopping.{AsksOne, AsksOneMore, StopsAt, StopsAtOne}
+use Rattle.guest_input.proofs.InputLemmas.{good_again}
 
--- A script that was read has at most 2,048 commands.
+-- The scripts, read one after another.
 
-none : {A : Type 0} (f : ScriptFault) (x : List Command) → Err f ≡ Ok x → A
-none f x h = let no : Err f ≡ Ok x = h in cc
+-- the first scripts are read, and good: `files` is of all of them so far, and this is what the files hold now
+pub record AreRead (files : Reading) (holds_now : List ℕ → Option (List ℕ)) (named : Named) (count : ℕ) (scripts : List (List Command)) : Type 0 where
+  pub same : holds_now ≡ files.holds
+  pub kept : files.faults_before ≤ files.faults_after
+  pub asked : Asks (take count named.scripts) files
+  pub as_many : length scripts ≡ count
+  pub good : (cpu : CpuNo) → cpu.0 < count → IsGood files.holds named (Script cpu)
+  pub each : IsEachOf files.holds named.scripts scripts
+  pub runnable : All IsRunnable scripts
 
-chosen : (b : Bool) (script : List Command) (c : Command) (longer : List Command) → cond b (Err fault.TooManyBytes) (Ok (script ++ c ∷ [])) ≡ Ok longer → longer ≡ script ++ c ∷ []
-chosen true script c longer h = none fault.TooManyBytes longer h
-chosen false script c longer h = let e : script ++ c ∷ [] ≡ longer = cc in sym e
+-- none is read yet
+pub none_read : (holds : List ℕ → Option (List ℕ)) (asked : List (List ℕ)) (faults : ℕ) (named : Named) → AreRead (record { holds = holds; asked_before = asked; asked_after = asked; faults_before = faults; faults_after = faults }) holds named 0 []
+none_read holds asked faults named = record {
+  same = refl;
+  kept = omega arith;
+  asked = sym (append-nil asked);
+  as_many = refl;
+  good = λ cpu less. absurd (omega arith);
+  each = λ cpu name script _ no. (let none : None ≡ Some script = no in cc);
+  runnable = All-nil IsRunnable;
+}
 
-command_few : (read : Result Command ScriptFault) (script longer : List Command) → length script < 2048 → followed_by read (with_command script) ≡ Ok longer → length longer ≤ 2048
-command_few (Err f) script longer low h = none f longer h
-command_few (Ok c) script longer low h =
-    let e = chosen (nat_lt 4194304 (sum_by bytes_named script + bytes_named c)) script c longer h in
-    let n = length_push script c in
-    let same : length longer ≡ length (script ++ c ∷ []) = ap (λ (s : List Command). length s) e in
-    omega (arith, n, same, low)
-
-words_few : (number : ℕ) (script longer : List Command) (words : List (List ℕ)) → length script ≤ 2048 → with_words number script words ≡ Ok longer → length longer ≤ 2048
-unfolding with_words
-words_few number script longer [] few h = let e : script ≡ longer = cc in subst (λ (s : List Command). length s ≤ 2048) e few
-words_few number script longer (first ∷ words) few h =
-    elim (cases_Bool (nat_le 2048 (length script))) [
-      | inl t ↦ none fault.TooManyCommands longer (sym (ap (λ b. cond b (Err fault.TooManyCommands) (followed_by (at_line number (command_of first words)) (with_command script))) t) ∙ h)
-      | inr f ↦
-          let low : length script < 2048 = grind (arith, nat_tests, f, few) in
-          command_few (at_line number (command_of first words)) script longer low (sym (ap (λ b. cond b (Err fault.TooManyCommands) (followed_by (at_line number (command_of first words)) (with_command script))) f) ∙ h)
+-- an item of a list that got one more
+pushed : {A : Type 0} (xs : List A) (y x : A) (at : ℕ) → slice_get (xs ++ y ∷ []) at ≡ Some x → (slice_get xs at ≡ Some x) ⊎ ((at ≡ length xs) × (y ≡ x))
+pushed [] y x zero h = inr (refl, let e : Some y ≡ Some x = h in cc)
+pushed [] y x (suc at) h = let none : None ≡ Some x = h in cc
+pushed (z ∷ xs) y x zero h = inl h
+pushed (z ∷ xs) y x (suc at) h =
+    elim (pushed xs y x at h) [
+      | inl is ↦ inl is
+      | inr last ↦ inr (ap suc last.0, last.1)
     ]
 
-read_few : (read : Result (List (List ℕ)) ScriptFault) (number : ℕ) (script longer : List Command) → length script ≤ 2048 → followed_by read (with_words number script) ≡ Ok longer → length longer ≤ 2048
-read_few (Err f) number script longer few h = none f longer h
-read_few (Ok words) number script longer few h = words_few number script longer words few h
+each_pushed : (holds : List ℕ → Option (List ℕ)) (names : List (List ℕ)) (scripts : List (List Command)) (script : List Command) → IsEachOf holds names scripts → IsScriptOf holds (unwrap_or (slice_get names (length scripts)) []) script → IsEachOf holds names (scripts ++ script ∷ [])
+each_pushed holds names scripts script each last cpu name s named is =
+    elim (pushed scripts script s cpu is) [
+      | inl here ↦ each cpu name s named here
+      | inr new ↦
+          let e : unwrap_or (slice_get names (length scripts)) [] ≡ name = ap (λ n. unwrap_or (slice_get names n) []) (sym new.0) ∙ ap (λ o. unwrap_or o []) named in
+          subst (λ n. IsScriptOf holds n s) e (subst (IsScriptOf holds (unwrap_or (slice_get names (length scripts)) [])) new.1 last)
+    ]
 
-line_few : (number : ℕ) (script longer : List Command) (line : List ℕ) → length script ≤ 2048 → with_line number script line ≡ Ok longer → length longer ≤ 2048
-unfolding with_line
-line_few number script longer line few h = read_few (at_line number (line_words line)) number script longer few h
+-- one script more: `files` is of those before it, `now` of this one
+pub one_more_read : (files now : Reading) (holds_now : List ℕ → Option (List ℕ)) (named : Named) (cpu : CpuNo) (scripts : List (List Command)) (script : List Command)
+    → AreRead files now.holds named cpu.0 scripts → cpu.0 < cpus_in named → now.asked_before ≡ files.asked_after → now.faults_before ≡ files.faults_after
+    → holds_now ≡ now.holds → now.faults_before ≤ now.faults_after → Asks (name_of named (Script cpu) ∷ []) now → IsGood now.holds named (Script cpu)
+    → IsScriptOf now.holds (name_of named (Script cpu)) script → IsRunnable script
+    → AreRead (record { holds = files.holds; asked_before = files.asked_before; asked_after = now.asked_after; faults_before = files.faults_before; faults_after = now.faults_after }) holds_now named (cpu.0 + 1) (scripts ++ script ∷ [])
+one_more_read files now holds_now named cpu scripts script read within begins counts same kept asked good is runs = record {
+  same = same ∙ read.same;
+  kept = omega (arith, read.kept, kept, counts);
+  asked =
+      asked ∙ ap (λ x. x ++ name_of named (Script cpu) ∷ []) (begins ∙ read.asked)
+      ∙ append_assoc files.asked_before (take cpu.0 named.scripts) (name_of named (Script cpu) ∷ [])
+      ∙ ap (λ x. files.asked_before ++ x) (ap (λ name. take cpu.0 named.scripts ++ name ∷ []) (unwrap_or-slice_get named.scripts cpu.0 []) ∙ sym (take_more named.scripts cpu.0 [] within));
+  as_many = length_push scripts script ∙ ap (λ n. n + 1) read.as_many;
+  good = λ other less. ⊎_elim
+      (λ (before : other.0 < cpu.0). read.good other before)
+      (λ (past : cpu.0 ≤ other.0). subst (λ (c : CpuNo). IsGood files.holds named (Script c)) (same_cpu cpu other (omega (arith, past, less))) (good_again files.holds now.holds named (Script cpu) read.same good))
+      (cases_lt other.0 cpu.0);
+  each = each_pushed files.holds named.scripts scripts script read.each
+      (subst (λ n. IsScriptOf files.holds (unwrap_or (slice_get named.scripts n) []) script) (sym read.as_many) (subst (λ (h : List ℕ → Option (List ℕ)). IsScriptOf h (name_of named (Script cpu)) script) read.same is));
+  runnable = All-push IsRunnable scripts script read.runnable runs;
+}
+  where
+    same_cpu : (a b : CpuNo) → a.0 ≡ b.0 → a ≡ b
+    same_cpu a b e = λ i. record { 0 = e i }
 
-then_few : (read : Result (List Command) ScriptFault) (number : ℕ) (longer : List Command) (lines : List (List ℕ)) → ((next : List Command) → read ≡ Ok next → length next ≤ 2048) → ((next : List Command) → length next ≤ 2048 → with_lines number next lines ≡ Ok longer → length longer ≤ 2048) → followed_by read (λ next. with_lines number next lines) ≡ Ok longer → length longer ≤ 2048
-then_few (Err f) number longer lines few rest h = none f longer h
-then_few (Ok next) number longer lines few rest h = rest next (few next refl) h
+-- a stop at a script behind those that are read
+pub stopped_behind : (files now : Reading) (named : Named) (cpu : CpuNo) (scripts : List (List Command)) (stop : Stop)
+    → AreRead files now.holds named cpu.0 scripts → cpu.0 < cpus_in named → now.asked_before ≡ files.asked_after → now.faults_before ≡ files.faults_after
+    → StopsAt now named (Script cpu) stop → AsksOne (name_of named (Script cpu)) now stop
+    → StopsAtOne (record { holds = files.holds; asked_before = files.asked_before; asked_after = now.asked_after; faults_before = files.faults_before; faults_after = now.faults_after }) named stop
+stopped_behind files now named cpu scripts stop read within begins counts stops asks = (
+  cpu,
+  record {
+    is_named = within;
+    own = own_of stop stops;
+    before = read.good;
+    asks = asks_of_all stop asks;
+  },
+)
+  where
+    own_of : (stop : Stop) → StopsAt now named (Script cpu) stop → StopsAt (record { holds = files.holds; asked_before = files.asked_before; asked_after = now.asked_after; faults_before = files.faults_before; faults_after = now.faults_after }) named (Script cpu) stop
+    own_of (Refused at cause) s = (s.0, subst (λ (h : List ℕ → Option (List ℕ)). (bytes : List ℕ) → h (name_of named (Script cpu)) ≡ Some bytes → cause_of (cpus_in named) (Script cpu) bytes ≡ Some cause) read.same s.1)
+    own_of (NotRead at) s = (s.0, Rose-after files.faults_before now.faults_before now.faults_after (omega (arith, read.kept, counts)) s.1)
+    own_of Module s = absurd s
+    own_of NoMemory s = tt
 
-lines_few : (number : ℕ) (script longer : List Command) (lines : List (List ℕ)) → length script ≤ 2048 → with_lines number script lines ≡ Ok longer → length longer ≤ 2048
-lines_few number script longer [] few h = let e : script ≡ longer = cc in subst (λ (s : List Command). length s ≤ 2048) e few
-lines_few number script longer (line ∷ lines) few h =
-    then_few (with_line number script line) (number + 1) longer lines (λ next is. line_few number script next line few is) (λ next low is. lines_few (number + 1) next longer lines low is) h
+    more : now.asked_after ≡ now.asked_before ++ name_of named (Script cpu) ∷ [] → now.asked_after ≡ files.asked_before ++ (take cpu.0 named.scripts ++ name_of named (Script cpu) ∷ [])
+    more a = a ∙ ap (λ x. x ++ name_of named (Script cpu) ∷ []) (begins ∙ read.asked) ∙ append_assoc files.asked_before (take cpu.0 named.scripts) (name_of named (Script cpu) ∷ [])
 
-pub script_few : {E : Type 0} (bytes : List ℕ) (script : List Command) (result : Result (List Command) E) → script_of bytes ≡ Ok script → IfOk result (λ r. r ≡ script) → IfOk result (λ r. length r ≤ 2048)
-script_few bytes script (Ok r) h same = subst (λ (s : List Command). length s ≤ 2048) (sym same) (lines_few 1 [] script (slice_split (λ b. b == 10) bytes) (omega arith) h)
-script_few bytes script (Err e) h same = tt
+    asks_of_all : (stop : Stop) → AsksOne (name_of named (Script cpu)) now stop → AsksOneMore (take cpu.0 named.scripts) (name_of named (Script cpu)) (record { holds = files.holds; asked_before = files.asked_before; asked_after = now.asked_after; faults_before = files.faults_before; faults_after = now.faults_after }) stop
+    asks_of_all (Refused at cause) a = more a
+    asks_of_all (NotRead at) a = more a
+    asks_of_all Module a = more a
+    asks_of_all NoMemory (inl a) = inl (more a)
+    asks_of_all NoMemory (inr a) = inr (a ∙ append-nil now.asked_before ∙ begins ∙ read.asked)
+
+-- all scripts are read
+pub are_scripts : (files : Reading) (holds_now : List ℕ → Option (List ℕ)) (named : Named) (count : ℕ) (scripts : List (List Command)) → AreRead files holds_now named count scripts → count ≡ cpus_in named → AreScriptsOf files.holds named scripts
+are_scripts files holds_now named count scripts read all = record { as_many = read.as_many ∙ all; each = read.each }
+
+pub all_asked : (files : Reading) (holds_now : List ℕ → Option (List ℕ)) (named : Named) (count : ℕ) (scripts : List (List Command)) → AreRead files holds_now named count scripts → count ≡ cpus_in named → files.asked_after ≡ files.asked_before ++ named.scripts
+all_asked files holds_now named count scripts read all =
+    read.asked ∙ ap (λ x. files.asked_before ++ x) (ap (λ n. take n named.scripts) all ∙ take_all (length named.scripts) named.scripts (omega arith))

@@ -1,9 +1,11 @@
-use Rattle.std.specs.Prelude.{ℕ, List, [], ◌++◌, codes, unwrap_or, IsSome}
+use Rattle.std.specs.Prelude.{ℕ, List, [], ◌++◌, ◌<◌, codes, length, slice_get, unwrap_or, IsSome}
 use Rattle.std.specs.Fmt.{decimal}
 use Rattle.efi_map.specs.declared.fault.MapFault.{MapFault}
 use Rattle.efi_map.specs.declared.fault.MapFault.TheVariants as fault
 use Rattle.unaccepted_bitmap.specs.declared.fault.TableFault.{TableFault}
 use Rattle.unaccepted_bitmap.specs.declared.fault.TableFault.TheVariants as table
+use Rattle.guest_script.specs.declared.order.OrderFault.{OrderFault}
+use Rattle.guest_script.specs.declared.order.OrderFault.TheVariants as order
 use Rattle.guest_script.specs.declared.fault.ScriptFault.{ScriptFault}
 use Rattle.guest_script.specs.declared.fault.ScriptFault.TheVariants as script
 use Rattle.guest_script.specs.declared.fault.Why.{Why}
@@ -11,7 +13,7 @@ use Rattle.guest_script.specs.declared.fault.Why.TheVariants as why
 use Rattle.event_core.specs.Texts.{line}
 use Rattle.guest_words.specs.Words.{Named}
 use Rattle.guest_input.specs.declared.stop.Cause.{Cause}
-use Rattle.guest_input.specs.declared.stop.Cause.TheVariants.{TooLong, Later, OfMap, OfTable, BadBit, OfScript}
+use Rattle.guest_input.specs.declared.stop.Cause.TheVariants.{TooLong, Later, OfOrder, OfMap, OfTable, BadBit, OfScript}
 use Rattle.guest_input.specs.declared.stop.InputFile.{InputFile}
 use Rattle.guest_input.specs.declared.stop.InputFile.TheVariants.{Order, Map, Table, Script}
 use Rattle.guest_input.specs.declared.stop.Stop.{Stop}
@@ -19,17 +21,25 @@ use Rattle.guest_input.specs.declared.stop.Stop.TheVariants.{Refused, NotRead, M
 
 -- The lines and statuses of a run that ends before its text (own rule).
 
--- the name of a file; that of a table that no argument names is empty
+-- the name of a file; that of one that no argument names is empty
 abbrev pub name_of : Named → InputFile → List ℕ
-name_of named Order = named.order
+name_of named Order = unwrap_or named.order []
 name_of named Map = named.map
 name_of named Table = unwrap_or named.table []
-name_of named Script = named.script
+name_of named (Script cpu) = unwrap_or (slice_get named.scripts cpu.0) []
 
 -- the arguments name the file
 abbrev pub IsNamed : Named → InputFile → Type 0
+IsNamed named Order = IsSome named.order
+IsNamed named Map = Unit {0}
 IsNamed named Table = IsSome named.table
-IsNamed named file = Unit {0}
+IsNamed named (Script cpu) = cpu.0 < length named.scripts
+
+-- what is wrong with an order file
+abbrev pub order_fault_text : OrderFault → List ℕ
+order_fault_text (order.Word number) = codes "word " ++ decimal number
+order_fault_text order.TooMany = codes "too many"
+order_fault_text order.NoMemory = codes "memory"
 
 -- what is wrong with a map file
 abbrev pub map_fault_text : MapFault → List ℕ
@@ -77,6 +87,7 @@ script_fault_text script.NoMemory = codes "memory"
 abbrev pub cause_text : Cause → List ℕ
 cause_text TooLong = codes "too long"
 cause_text Later = codes "later"
+cause_text (OfOrder f) = order_fault_text f
 cause_text (OfMap f) = map_fault_text f
 cause_text (OfTable f) = table_fault_text f
 cause_text (BadBit unit) = codes "bit " ++ decimal unit

@@ -6,3 +6,6 @@ mod stop;
 
 pub use input::{Input, read_input};
 pub use stop::{Cause, InputFile, Stop, print_stop};
+
+#[cfg(test)]
+mod tests;

@@ -1,13 +1,14 @@
 //! Why a run ends before its text.
-ghost use Rattle.std.specs.Prelude.{◌≡◌, ◌≢◌, string_bytes, IfOk};
+ghost use Rattle.std.specs.Prelude.{◌≡◌, ◌≢◌, string_bytes, slice_get, IfOk};
 ghost use Rattle.guest_input.specs.declared.stop.Stop.TheVariants.{NoMemory};
-ghost use Rattle.guest_input.specs.Stops.{name_of, map_fault_text, table_fault_text, script_fault_text, why_text, cause_text, refused_line, not_read_line, status_of, stop_line};
+ghost use Rattle.guest_input.specs.Stops.{name_of, order_fault_text, map_fault_text, table_fault_text, script_fault_text, why_text, cause_text, refused_line, not_read_line, status_of, stop_line};
 ghost use Rattle.guest_input.specs.Causes.{limit_of};
-ghost use Rattle.guest_words.specs.Views.{seen};
+ghost use Rattle.guest_words.specs.Views.{seen, text_in};
 
 use efi_map::MapFault;
+use guest_base::CpuNo;
 use guest_base::limits::{MAX_MAP_BYTES, MAX_ORDER_BYTES, MAX_SCRIPT_BYTES};
-use guest_script::{ScriptFault, Why};
+use guest_script::{OrderFault, ScriptFault, Why};
 use guest_words::Names;
 use std::alloc::{AllocError, Global};
 use unaccepted_bitmap::TableFault;
@@ -21,7 +22,8 @@ pub enum InputFile {
     Order,
     Map,
     Table,
-    Script,
+    /// The script of this processor.
+    Script(CpuNo),
 }
 
 /// Why a file is refused.
@@ -29,8 +31,10 @@ pub enum InputFile {
 pub enum Cause {
     /// It has more bytes than its limit.
     TooLong,
-    /// It isn't of the form that is run today.
+    /// It is a script with a command that isn't run today.
     Later,
+    /// It isn't an order file for as many processors as there are scripts.
+    OfOrder(OrderFault),
     /// It isn't a map file.
     OfMap(MapFault),
     /// It isn't a table file.
@@ -63,24 +67,29 @@ impl InputFile {
             InputFile::Order => MAX_ORDER_BYTES,
             InputFile::Map => MAX_MAP_BYTES,
             InputFile::Table => MAX_TABLE_BYTES,
-            InputFile::Script => MAX_SCRIPT_BYTES,
+            InputFile::Script(_) => MAX_SCRIPT_BYTES,
         }
     }
 }
 
-/// The name of a file. That of a table that no argument names is empty.
+/// The name of a file. That of one that no argument names is empty.
 pub(crate) fn name_in<'a>(names: &Names<'a>, file: InputFile) -> &'a str
     ensures { result.now ≡ name_of (seen names.now) file }
 {
-    match file {
+    let name = match file {
         InputFile::Order => names.order,
-        InputFile::Map => names.map,
-        InputFile::Table => match names.table {
-            Some(name) => name,
-            None => "",
-        },
-        InputFile::Script => names.script,
-    }
+        InputFile::Map => Some(names.map),
+        InputFile::Table => names.table,
+        InputFile::Script(cpu) => script_name(names, cpu),
+    };
+    name.unwrap_or("")
+}
+
+/// The name of a processor's script.
+fn script_name<'a>(names: &Names<'a>, cpu: CpuNo) -> Option<&'a str>
+    ensures { text_in result ≡ slice_get (seen names.now).scripts cpu.0 }
+{
+    names.scripts.as_slice().get(cpu.0 as usize).copied()
 }
 
 impl Stop {
@@ -102,6 +111,17 @@ impl From<AllocError> for Stop {
 
     fn from(_e: AllocError) -> Stop {
         Stop::NoMemory
+    }
+}
+
+/// What is wrong with an order file.
+fn print_order_fault(alloc: Global, fault: OrderFault) -> Result<String, AllocError>
+    ensures { IfOk result (λ text. string_bytes text ≡ order_fault_text fault) }
+{
+    match fault {
+        OrderFault::Word(number) => format!(in alloc; "word {number}"),
+        OrderFault::TooMany => String::from_str(alloc, "too many"),
+        OrderFault::NoMemory => String::from_str(alloc, "memory"),
     }
 }
 
@@ -175,6 +195,7 @@ fn print_cause(alloc: Global, cause: Cause) -> Result<String, AllocError>
     match cause {
         Cause::TooLong => String::from_str(alloc, "too long"),
         Cause::Later => String::from_str(alloc, "later"),
+        Cause::OfOrder(fault) => print_order_fault(alloc, fault),
         Cause::OfMap(fault) => print_map_fault(alloc, fault),
         Cause::OfTable(fault) => print_table_fault(alloc, fault),
         Cause::BadBit(unit) => format!(in alloc; "bit {unit}"),

@@ -1,17 +1,16 @@
 use Rattle.std.proofs.Common.{◌≡◌, ℕ, ◌⊎◌, List, ◌++◌, Option, None, Some, refl, sym, ◌∙◌, ap, subst, inl, inr}
-use Rattle.std.specs.Prelude.{Result, Ok, Err, IfSome, OnOk, OnErr}
+use Rattle.std.specs.Prelude.{Result, Ok, Err, OnOk, OnErr}
 use Rattle.guest_base.specs.Counts.{Rose}
 use Rattle.event_core.specs.declared.boot.Recorded.{Recorded}
 use Rattle.guest_io.specs.declared.sink.PutFault.{PutFault}
 use Rattle.guest_io.specs.declared.sink.PutFault.TheVariants.{Failed, NoMemory as NoRoom}
 use Rattle.guest_words.specs.Words.{Named}
-use Rattle.guest_input.specs.Asked.{names_of, names_to, AsksFront}
+use Rattle.guest_input.specs.Asked.{all_names, names_of, AsksFront}
 use Rattle.guest_input.specs.Causes.{IsKnownRefused}
 use Rattle.guest_input.specs.Files.{AreKnownGood}
 use Rattle.guest_input.specs.Stops.{name_of, refused_line, stop_line, status_of}
 use Rattle.guest_input.specs.declared.stop.Cause.{Cause}
 use Rattle.guest_input.specs.declared.stop.InputFile.{InputFile}
-use Rattle.guest_input.specs.declared.stop.InputFile.TheVariants.{Script}
 use Rattle.guest_input.specs.declared.stop.Stop.{Stop}
 use Rattle.guest_input.specs.declared.stop.Stop.TheVariants.{Refused, NotRead, Module, NoMemory}
 use Rattle.guest_input.proofs.InputLemmas.{asks_all, front_to}
@@ -19,8 +18,8 @@ use Rattle.guest_input.proofs.RefusedLemmas.{good_known, known_good, not_behind,
 use Rattle.guest_text.specs.Printings.{CutAfter, PrintedAfter}
 use Rattle.guest_text.specs.Putting.{Putting, Put, PutFront, PutNothing}
 use Rattle.guest_run.specs.declared.program.Ended.{Ended}
-use Rattle.guest_run.specs.Asking.{PortsKept}
-use Rattle.guest_run.specs.Ends.{Completes, Ending, Ends, Outside, RefusesFirst, RunEnds, SaysNotReadUpTo}
+use Rattle.guest_runs.specs.Asking.{PortsKept}
+use Rattle.guest_run.specs.Ends.{cpus_of, Completes, Ending, Ends, Outside, RefusesFirst, RunEnds, SaysNotReadUpTo}
 use Rattle.guest_run.specs.Ends.Ending.{Unmatched, Stops, Runs}
 use Rattle.guest_run.specs.Stopping.{EndsAt, EndsWith, StopEnds, Stopped}
 
@@ -115,7 +114,7 @@ complete o arguments ended (Runs other r that good-all asks ends) named is good 
 
 -- ---- the names that were asked for
 
-asked_stop : {P : Type 0} (o : Outside P) (named : Named) (stop : Stop) → Stopped o.files o.ports named stop → AsksFront (names_to named Script) o.files
+asked_stop : {P : Type 0} (o : Outside P) (named : Named) (stop : Stop) → Stopped o.files o.ports named stop → AsksFront (all_names named) o.files
 asked_stop o named (Refused file cause) stopped = (let front = front_to named file in (front.0, stopped.0.asked ∙ ap (λ names. o.files.asked_before ++ names) front.1))
 asked_stop o named (NotRead file) stopped = (let front = front_to named file in (front.0, stopped.0.asked ∙ ap (λ names. o.files.asked_before ++ names) front.1))
 asked_stop o named Module stopped = asks_all named o.files stopped.1
@@ -128,7 +127,7 @@ asked o arguments ended (Runs named r is good asks ends) = subst (λ a. AsksFron
 
 -- ---- all together
 
-pub ends_of : {P : Type 0} (o : Outside P) (arguments : Option Named) (ended : Ended) → PortsKept o.ports → Ending o arguments ended → Ends o arguments ended
+pub ends_of : {P : Type 0} (o : Outside P) (arguments : Option Named) (ended : Ended) → PortsKept (cpus_of arguments) o.ports → Ending o arguments ended → Ends o arguments ended
 ends_of o arguments ended kept ending = record {
   ending = ending;
   first_refused = first_refused o arguments ended ending;
@@ -136,10 +135,3 @@ ends_of o arguments ended kept ending = record {
   asked = asked o arguments ended ending;
   kept = kept;
 }
-
--- what holds of the run that is recorded
-pub of_run : {A : Type 0} (Q : A → Type 0) (o : Option A) (x : A) → o ≡ Some x → Q x → IfSome o Q
-of_run Q o x is q = subst (λ y. IfSome y Q) (sym is) q
-
-pub of_none : {A : Type 0} (Q : A → Type 0) (o : Option A) → o ≡ None → IfSome o Q
-of_none Q o is = subst (λ y. IfSome y Q) (sym is) tt

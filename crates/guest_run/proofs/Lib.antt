@@ -1,11 +1,5 @@
 pub mod PortsLemmas
-pub mod FaultLemmas
-pub mod OneProcessor
-pub mod AtLemmas
-pub mod SpanLemmas
-pub mod ReadyLemmas
-pub mod TurnsLemmas
+pub mod StartLemmas
 pub mod RunLemmas
-pub mod WithinLemmas
-pub mod BootedLemmas
 pub mod EndLemmas
+pub mod DidLemmas

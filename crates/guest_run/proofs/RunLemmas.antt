@@ -1,66 +1,97 @@
-use Rattle.std.proofs.Common.{◌≡◌, ℕ, zero, suc, true, Some, List, [], ◌∷◌, sym, ◌∙◌, ap, subst, length}
-use Rattle.std.specs.Prelude.{slice_get, All, Result, Ok, Err, IfOk}
-use Rattle.std.specs.List.{AllByRecursion}
-use Rattle.std.proofs.lemmas.List.Elements.{recursion_from_All}
+use Rattle.std.proofs.Common.{◌≡◌, ℕ, true, List, length, Option, None, Some, refl, sym, subst, inr, arith}
+use Rattle.std.specs.Prelude.{Ok, Err}
+use Rattle.std.specs.Option.{option_map}
 use Rattle.guest_base.specs.declared.memory.PageRun.{PageRun}
+use Rattle.guest_base.specs.declared.memory.CpuNo.{CpuNo}
 use Rattle.event_core.specs.declared.boot.Boot.{Boot}
 use Rattle.event_core.specs.declared.boot.Recorded.{Recorded}
 use Rattle.event_core.specs.declared.command.Command.{Command}
 use Rattle.event_core.specs.declared.module_call.ModuleCall.{ModuleCall}
-use Rattle.event_core.specs.declared.entry.Entry.{Entry}
-use Rattle.event_core.specs.Runs.{state_in}
-use Rattle.event_core.specs.Calls.{calls_of, SoundCalls}
-use Rattle.event_core.specs.Legal.{Legal}
-use Rattle.event_core.specs.RangedScripts.{IsRanged, RangedScripts}
-use Rattle.guest_base.specs.Counts.{Rose}
-use Rattle.guest_run.specs.Asking.{asking}
-use Rattle.guest_run.specs.Recordings.{KeepsRun, OneHistory}
-use Rattle.event_core.proofs.RangedLemmas.{ranged-untouched, ranged-disjoint, ranged-told, ranged-full}
-use Rattle.event_core.proofs.SoundLemmas.{accepted_once}
-use Rattle.guest_run.specs.Replies.{entries_by, port_calls, some_module, FaultsTold}
-use Rattle.guest_run.proofs.PortsLemmas.{all_mine, kept_mine, mine_calls}
+use Rattle.guest_words.specs.Words.{Named, cpus_in, is_cpus}
+use Rattle.guest_input.specs.Asked.{all_names, Asks}
+use Rattle.guest_input.specs.Files.{AreGood, IsOrderIn}
+use Rattle.guest_input.specs.Reading.{Reading}
+use Rattle.guest_input.specs.declared.stop.Stop.{Stop}
+use Rattle.guest_input.specs.declared.stop.Stop.TheVariants.{NoMemory}
+use Rattle.guest_input.proofs.InputLemmas.{asks_all}
+use Rattle.guest_text.specs.Printings.{FinalRuns}
+use Rattle.guest_runs.specs.Asking.{asking, PortsKept}
+use Rattle.guest_runs.specs.Recordings.{KeepsRun, RunHalts}
+use Rattle.guest_runs.proofs.PortsLemmas.{keeps_from, kept_more, kept_then}
+use Rattle.guest_run.specs.Booted.{BootedBy}
+use Rattle.guest_run.specs.Ran.{numbers, Ran}
+use Rattle.guest_run.specs.Starting.{Starts}
+use Rattle.guest_run.specs.Stopping.{Stopped}
+use Rattle.guest_run.specs.declared.start.Start.{Start}
+use Rattle.guest_run.proofs.StartLemmas.{cpus_some}
 
--- the one script's commands are about ranges of memory
-pub ranged_one : (script : List Command) (scripts : List (List Command)) → All IsRanged script → scripts ≡ script ∷ [] → RangedScripts scripts
-ranged_one script scripts first one = subst RangedScripts (sym one) (recursion_from_All IsRanged script first, tt)
+-- How a run of named files ends.
 
--- ---- what a run answers
+-- a run is of the files that its world and scripts are of
+booted_as : (holds : List ℕ → Option (List ℕ)) (named : Named) (s : Start) (r : Recorded) → BootedBy holds named s.order s.world.boot s.scripts → r.boot ≡ s.world.boot → r.scripts ≡ s.scripts → BootedBy holds named s.order r.boot r.scripts
+booted_as holds named s r booted boot scripts =
+    let B : Boot → Type 0 = λ b. BootedBy holds named s.order b r.scripts in
+    let S : List (List Command) → Type 0 = λ ss. BootedBy holds named s.order s.world.boot ss in
+    subst B (sym boot) (subst S (sym scripts) booted)
 
-module_one : {P : Type 0} (faults : P → ℕ) (port_old port : P) (entries : List Entry) → AllByRecursion (λ (e : Entry). e.cpu.0 ≡ 0) entries → FaultsTold (faults port_old) entries (faults port) → (cpu : ℕ) (a b : P) → slice_get (port_old ∷ []) cpu ≡ Some a → slice_get (port ∷ []) cpu ≡ Some b → some_module (entries_by cpu entries) ≡ true → Rose (faults a) (faults b)
-module_one faults port_old port entries mine told zero a b at_a at_b some =
-    let same : port_old ≡ a = cc in
-    let that : port ≡ b = cc in
-    subst (λ x. Rose (faults x) (faults b)) same (subst (λ x. Rose (faults port_old) (faults x)) that (told (sym (ap some_module (kept_mine entries mine)) ∙ some)))
-module_one faults port_old port entries mine told (suc cpu) a b at_a at_b some = cc
+-- the ports that come back from boot and a run
+kept_both : {P : Type 0} (holds : List ℕ → Option (List ℕ)) (made : P → List ModuleCall) (faults : P → ℕ) (never : P → Type 0) (old between after : List P) (named : Named) (s : Start) → Starts holds (asking made faults never old between) named s → PortsKept 1 (asking made faults never old between) → PortsKept (length s.scripts) (asking made faults never between after) → PortsKept (cpus_in named) (asking made faults never old after)
+kept_both holds made faults never old between after named s start kept then =
+    let some = start.begins.some in
+    subst (λ n. PortsKept n (asking made faults never old after)) start.booted.scripts_are.as_many (kept_then made faults never 1 (length s.scripts) old between after (omega (arith, some)) kept then)
 
-made_one : {P : Type 0} (made : P → List ModuleCall) (port : P) (r : Recorded) → made port ≡ port_calls r 0 → (cpu : ℕ) (q : P) → slice_get (port ∷ []) cpu ≡ Some q → made q ≡ port_calls r cpu
-made_one made port r is zero q at = (let same : port ≡ q = cc in ap made (sym same) ∙ is)
-made_one made port r is (suc cpu) q at = cc
+-- it is recorded
+pub ran : {P : Type 0} (files : Reading) (made : P → List ModuleCall) (faults : P → ℕ) (never : P → Type 0) (old between after : List P) (named : Named) (s : Start) (order : Option (List ℕ)) (r : Recorded × List PageRun) → AreGood files.holds named → Asks (all_names named) files → Starts files.holds (asking made faults never old between) named s → PortsKept 1 (asking made faults never old between)
+    → order ≡ option_map numbers s.order → r.0.boot ≡ s.world.boot → r.0.scripts ≡ s.scripts → KeepsRun (asking made faults never between after) order r.0 → FinalRuns r.0 r.1 → PortsKept (length s.scripts) (asking made faults never between after) → Ran files (asking made faults never old after) named (Ok r)
+ran files made faults never old between after named s order r good asked start kept is boot scripts keeps final then = record {
+  good = good;
+  run = record {
+    order = s.order;
+    booted = booted_as files.holds named s r.0 start.booted boot scripts;
+    keeps = subst (λ o. KeepsRun (asking made faults never old after) o r.0) is (keeps_from made faults never old between after order r.0 kept.each keeps);
+  };
+  final_runs = final;
+  asked = asked;
+  stop = tt;
+  kept = kept_both files.holds made faults never old between after named s start kept then;
+}
 
--- what a history of a script of commands on ranges keeps
-pub keeps_one : {P : Type 0} (made : P → List ModuleCall) (faults : P → ℕ) (never : P → Type 0) (port_old port : P) (script : List Command) (r : Recorded) → All IsRanged script → r.boot.cpus ≡ 1 → SoundCalls (state_in r.boot.ram) r.boot.calls → r.scripts ≡ script ∷ [] → OneHistory [] r
-    → made port ≡ calls_of r.boot r.entries → FaultsTold (faults port_old) r.entries (faults port) → KeepsRun (asking made faults never (port_old ∷ []) (port ∷ [])) r
-keeps_one made faults never port_old port script r first cpus sound one history is told =
-    let ranged = ranged_one script r.scripts first one in
-    let legal = history.whole.legal in
-    let S : List (List Command) → Type 0 = λ scripts. Legal r.boot scripts r.entries in
-    let mine = all_mine r.boot script [] r.entries (subst S one legal) in
-    record {
-      history = history;
-      accepted_once = accepted_once r.boot r.scripts r.entries ranged (ap (λ (s : List (List Command)). length s) one ∙ sym cpus) sound legal;
-      untouched = ranged-untouched r.boot r.scripts r.entries ranged legal;
-      disjoint = ranged-disjoint r.boot r.scripts r.entries ranged legal;
-      bytes = ranged-told r.boot r.scripts r.entries ranged;
-      full = ranged-full r.boot r.scripts r.entries ranged legal;
-      calls = made_one made port r (is ∙ sym (mine_calls r.boot script r.scripts r.entries one legal));
-      «module» = module_one faults port_old port r.entries mine told;
-    }
+-- memory ran out in it
+pub ran_out : {P : Type 0} (files : Reading) (made : P → List ModuleCall) (faults : P → ℕ) (never : P → Type 0) (old between after : List P) (named : Named) (s : Start) → Asks (all_names named) files → Starts files.holds (asking made faults never old between) named s → PortsKept 1 (asking made faults never old between) → RunHalts (asking made faults never between after) s.world.boot s.scripts
+    → PortsKept (length s.scripts) (asking made faults never between after) → Ran files (asking made faults never old after) named (Err NoMemory)
+ran_out files made faults never old between after named s asked start kept halts then = record {
+  good = tt;
+  run = tt;
+  final_runs = tt;
+  asked = tt;
+  stop = (
+    asks_all named files asked,
+    inr (inr (record {
+      run = halts.run;
+      order = s.order;
+      booted = booted_as files.holds named s halts.run start.booted halts.boot_is halts.scripts_are;
+      halted = record { legal = halts.halted.legal; calls = halts.halted.calls };
+    })),
+  );
+  kept = kept_both files.holds made faults never old between after named s start kept then;
+}
 
-pub keeps_of : {P E : Type 0} (made : P → List ModuleCall) (faults : P → ℕ) (never : P → Type 0) (port_old port : P) (boot : Boot) (script : List Command) (entries : List Entry) (calls : List ModuleCall) (result : Result (Recorded × List PageRun) E) → All IsRanged script → boot.cpus ≡ 1 → SoundCalls (state_in boot.ram) boot.calls → made port ≡ calls → FaultsTold (faults port_old) entries (faults port)
-    → IfOk result (λ r. r.0.boot ≡ boot) → IfOk result (λ r. r.0.scripts ≡ script ∷ []) → IfOk result (λ r. OneHistory [] r.0) → IfOk result (λ r. calls_of r.0.boot r.0.entries ≡ calls) → IfOk result (λ r. r.0.entries ≡ entries)
-    → IfOk result (λ r. KeepsRun (asking made faults never (port_old ∷ []) (port ∷ [])) r.0)
-keeps_of made faults never port_old port boot script entries calls (Err e) first cpus sound is told booted one history same these = tt
-keeps_of made faults never port_old port boot script entries calls (Ok r) first cpus sound is told booted one history same these =
-    let S : Boot → Type 0 = λ b. SoundCalls (state_in b.ram) b.calls in
-    let T : List Entry → Type 0 = λ es. FaultsTold (faults port_old) es (faults port) in
-    keeps_one made faults never port_old port script r.0 first (ap (λ (b : Boot). b.cpus) booted ∙ cpus) (subst S (sym booted) sound) one history (is ∙ sym same) (subst T (sym these) told)
+-- it didn't begin
+pub ran_not : {P : Type 0} (files : Reading) (made : P → List ModuleCall) (faults : P → ℕ) (never : P → Type 0) (old after : List P) (named : Named) (stop : Stop) → is_cpus (cpus_in named) ≡ true → Stopped files (asking made faults never old after) named stop → PortsKept 1 (asking made faults never old after) → Ran files (asking made faults never old after) named (Err stop)
+ran_not files made faults never old after named stop cpus stopped kept = record {
+  good = tt;
+  run = tt;
+  final_runs = tt;
+  asked = tt;
+  stop = stopped;
+  kept = kept_more made faults never 1 (cpus_in named) old after (omega (arith, cpus_some (cpus_in named) cpus)) kept;
+}
+
+-- without an order file there is no order
+order_none : (holds : List ℕ → Option (List ℕ)) (cpus : ℕ) (name : Option (List ℕ)) (order : Option (List CpuNo)) → name ≡ None → IsOrderIn holds cpus name order → None ≡ option_map numbers order
+order_none holds cpus None None none is = refl
+order_none holds cpus None (Some order) none is = absurd is
+order_none holds cpus (Some name) order none is = cc
+
+pub no_order : (holds : List ℕ → Option (List ℕ)) (named : Named) (s : Start) → named.order ≡ None → BootedBy holds named s.order s.world.boot s.scripts → None ≡ option_map numbers s.order
+no_order holds named s none booted = order_none holds (cpus_in named) named.order s.order none booted.order_is

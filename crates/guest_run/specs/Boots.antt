@@ -1,60 +1,49 @@
-use Rattle.std.specs.Prelude.{ℕ, List, [], ◌∷◌, Option, ◌≡◌, ◌⊎◌}
+use Rattle.std.specs.Prelude.{ℕ, List, Option, ◌≡◌, ◌⊎◌, drop}
 use Rattle.guest_base.specs.Counts.{Rose}
+use Rattle.guest_base.specs.declared.memory.CpuNo.{CpuNo}
 use Rattle.guest_base.specs.declared.memory.Page.{Page}
 use Rattle.event_core.specs.declared.boot.Recorded.{Recorded}
-use Rattle.event_core.specs.declared.command.Command.{Command}
-use Rattle.event_core.specs.Boot.{BootFront, BootRight, BootStopped}
+use Rattle.event_core.specs.Boot.{BootFront, BootStopped}
 use Rattle.event_core.specs.Table.{Bits}
 use Rattle.guest_map.specs.declared.map.GuestMap.{GuestMap}
-use Rattle.guest_words.specs.Words.{Named}
+use Rattle.guest_words.specs.Words.{Named, cpus_in}
 use Rattle.guest_input.specs.Files.{AreGood, IsGiven}
 use Rattle.guest_input.specs.declared.stop.Stop.{Stop}
 use Rattle.guest_input.specs.declared.stop.Stop.TheVariants.{Refused, NotRead, Module, NoMemory}
-use Rattle.guest_run.specs.Asking.{Asking, OthersUnmade, Unasked, first_faults, first_made}
-use Rattle.guest_run.specs.Recordings.{BootedBy, Halted}
+use Rattle.guest_runs.specs.Asking.{Asking, Unasked, first_faults, first_made}
+use Rattle.guest_runs.specs.Recordings.{Halted}
+use Rattle.guest_run.specs.Booted.{BootedBy}
 
 -- How a boot or a run ends before its text, and which calls the ports then have (own rule).
 
--- boot of the map and the table stopped at a page, where a call on the first port failed, and no
--- other port was asked
+-- all ports but the first are as they were
+abbrev pub OthersUnasked : {P : Type 0} → Asking P → Type 0
+OthersUnasked ports = drop 1 ports.after ≡ drop 1 ports.before
+
+-- boot of the map and the table stopped at a page, where a call on the first port failed; no other
+-- port was asked
 pub record BootFailed {P : Type 0} (ports : Asking P) (map : GuestMap) (table : Option Bits)
-    (areas : ℕ) : Type 0 where
+    (areas cpus : ℕ) : Type 0 where
   pub page : Page
   pub stopped
-      : BootStopped map.descriptors map.hosts table 0 areas 1 (first_made ports.made ports.after) page
+      : BootStopped map.descriptors map.hosts table 0 areas cpus
+      (first_made ports.made ports.after) page
   pub rose : Rose (first_faults ports.faults ports.before) (first_faults ports.faults ports.after)
-  pub others : OthersUnmade ports.made ports.after
+  pub others : OthersUnasked ports
 
 -- the first port's calls are the first ones of that boot, and no other port was asked
 pub record BootCut {P : Type 0} (ports : Asking P) (map : GuestMap) (table : Option Bits)
-    (areas : ℕ) : Type 0 where
+    (areas cpus : ℕ) : Type 0 where
   pub front
-      : BootFront map.descriptors map.hosts table 0 areas 1 (first_made ports.made ports.after)
-  pub others : OthersUnmade ports.made ports.after
-
--- that boot came to its end, and the ports' calls are those of a legal history of the script
-pub record RunCut {P : Type 0} (ports : Asking P) (map : GuestMap) (table : Option Bits)
-    (areas : ℕ) (script : List Command) : Type 0 where
-  pub run : Recorded
-  pub right : BootRight map.descriptors map.hosts table 0 areas 1 run.boot
-  pub scripts : run.scripts ≡ script ∷ []
-  pub halted : Halted ports run
+      : BootFront map.descriptors map.hosts table 0 areas cpus (first_made ports.made ports.after)
+  pub others : OthersUnasked ports
 
 -- why a boot ended early
-abbrev pub BootEnds : {P : Type 0} → Asking P → GuestMap → Option Bits → ℕ → Stop → Type 0
-BootEnds ports map table areas (Refused at cause) = ⊥
-BootEnds ports map table areas (NotRead at) = ⊥
-BootEnds ports map table areas Module = BootFailed ports map table areas
-BootEnds ports map table areas NoMemory = BootCut ports map table areas
-
--- why a run of a map, a table and a script ended early
-abbrev pub RunEndsEarly : {P : Type 0} → Asking P → GuestMap → Option Bits → ℕ → List Command
-    → Stop → Type 0
-RunEndsEarly ports map table areas script (Refused at cause) = ⊥
-RunEndsEarly ports map table areas script (NotRead at) = ⊥
-RunEndsEarly ports map table areas script Module = BootFailed ports map table areas
-RunEndsEarly ports map table areas script NoMemory =
-    BootCut ports map table areas ⊎ RunCut ports map table areas script
+abbrev pub BootEnds : {P : Type 0} → Asking P → GuestMap → Option Bits → ℕ → ℕ → Stop → Type 0
+BootEnds ports map table areas cpus (Refused at cause) = ⊥
+BootEnds ports map table areas cpus (NotRead at) = ⊥
+BootEnds ports map table areas cpus Module = BootFailed ports map table areas cpus
+BootEnds ports map table areas cpus NoMemory = BootCut ports map table areas cpus
 
 -- boot of what the files hold stopped, all of them being good
 pub record BootStops {P : Type 0} (holds : List ℕ → Option (List ℕ)) (ports : Asking P)
@@ -63,7 +52,7 @@ pub record BootStops {P : Type 0} (holds : List ℕ → Option (List ℕ)) (port
   pub map : GuestMap
   pub table : Option Bits
   pub given : IsGiven holds named map table
-  pub failed : BootFailed ports map table named.areas
+  pub failed : BootFailed ports map table named.areas (cpus_in named)
 
 -- memory ran out in the boot of what the files hold
 pub record EndsInBoot {P : Type 0} (holds : List ℕ → Option (List ℕ)) (ports : Asking P)
@@ -71,13 +60,14 @@ pub record EndsInBoot {P : Type 0} (holds : List ℕ → Option (List ℕ)) (por
   pub map : GuestMap
   pub table : Option Bits
   pub given : IsGiven holds named map table
-  pub cut : BootCut ports map table named.areas
+  pub cut : BootCut ports map table named.areas (cpus_in named)
 
 -- memory ran out in the run of what the files hold
 pub record EndsInRun {P : Type 0} (holds : List ℕ → Option (List ℕ)) (ports : Asking P)
     (named : Named) : Type 0 where
   pub run : Recorded
-  pub booted : BootedBy holds named run
+  pub order : Option (List CpuNo)
+  pub booted : BootedBy holds named order run.boot run.scripts
   pub halted : Halted ports run
 
 -- Where memory ran out before a run is recorded all ports are as they were, or the first one's

@@ -1,8 +1,8 @@
 use Rattle.std.specs.Prelude.{ℕ, [], Option, None, Some, ◌≡◌, ◌≤◌, ◌⊎◌}
 use Rattle.guest_base.specs.Counts.{Rose}
 use Rattle.event_core.specs.declared.boot.Recorded.{Recorded}
-use Rattle.guest_words.specs.Words.{Named}
-use Rattle.guest_input.specs.Asked.{names_of, names_to, place_of, Asks, AsksFront}
+use Rattle.guest_words.specs.Words.{Named, cpus_in}
+use Rattle.guest_input.specs.Asked.{all_names, names_of, place_of, Asks, AsksFront}
 use Rattle.guest_input.specs.Causes.{IsKnownRefused}
 use Rattle.guest_input.specs.Files.{AreGood, AreKnownGood}
 use Rattle.guest_input.specs.Reading.{Reading}
@@ -10,12 +10,11 @@ use Rattle.guest_input.specs.Stopping.{IsNotRead}
 use Rattle.guest_input.specs.Stops.{name_of, not_read_line, refused_line, words_line}
 use Rattle.guest_input.specs.declared.stop.Cause.{Cause}
 use Rattle.guest_input.specs.declared.stop.InputFile.{InputFile}
-use Rattle.guest_input.specs.declared.stop.InputFile.TheVariants.{Script}
 use Rattle.guest_input.specs.declared.stop.Stop.{Stop}
 use Rattle.guest_text.specs.Printings.{CutAfter, PrintedAfter}
 use Rattle.guest_text.specs.Putting.{Putting, Put}
 use Rattle.guest_run.specs.declared.program.Ended.{Ended}
-use Rattle.guest_run.specs.Asking.{Asking, PortsKept, Unasked}
+use Rattle.guest_runs.specs.Asking.{Asking, PortsKept, Unasked}
 use Rattle.guest_run.specs.Stopping.{EndsWith, StopEnds, Stopped}
 
 -- How the program ends (own rule).
@@ -52,7 +51,7 @@ pub data Ending {P : Type 0} (o : Outside P) (arguments : Option Named)
       → Ending o arguments ended
   -- a run is recorded, all files being read and good: its text with 0, cut with 5 or 6
   Runs : (named : Named) (r : Recorded) → arguments ≡ Some named → AreGood o.files.holds named
-      → Asks (names_to named Script) o.files → RunEnds o.out r ended → Ending o arguments ended
+      → Asks (all_names named) o.files → RunEnds o.out r ended → Ending o arguments ended
 
 -- The line says that a file, which isn't read after this one, couldn't be read, and so it is.
 abbrev pub SaysNotReadUpTo : InputFile → Reading → Putting → Named → Type 0
@@ -79,6 +78,11 @@ Completes o arguments status =
     → (Rose o.out.faults_before o.out.faults_after → ⊥)
     → (status ≡ 0) ⊎ (status ≡ 6) ⊎ (status ≡ 7)
 
+-- how many processors the arguments ask for: one for each script
+abbrev pub cpus_of : Option Named → ℕ
+cpus_of None = 0
+cpus_of (Some named) = cpus_in named
+
 -- How the program ends, whatever the status.
 pub record Ends {P : Type 0} (o : Outside P) (arguments : Option Named)
     (ended : Ended) : Type 0 where
@@ -90,5 +94,6 @@ pub record Ends {P : Type 0} (o : Outside P) (arguments : Option Named)
   pub complete : Completes o arguments ended.status
   -- the first of the named files were asked for, in their order, and no others
   pub asked : AsksFront (names_of arguments) o.files
-  -- as many ports come back, each with its count and its promise, and all but the first unchanged
-  pub kept : PortsKept o.ports
+  -- as many ports come back, each with its count and its promise, and those of no processor
+  -- unchanged
+  pub kept : PortsKept (cpus_of arguments) o.ports

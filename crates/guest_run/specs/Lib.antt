@@ -1,10 +1,7 @@
-pub mod Running
-pub mod Ready
-pub mod Answered
-pub mod RangedCommand
-pub mod Replies
-pub mod Asking
-pub mod Recordings
+pub mod Booted
 pub mod Boots
+pub mod Starting
 pub mod Stopping
+pub mod Ran
 pub mod Ends
+pub mod Did

@@ -1,16 +1,15 @@
 use Rattle.std.specs.Prelude.{ℕ, List, None, ◌≡◌, ◌⊎◌}
 use Rattle.guest_base.specs.Counts.{Rose}
 use Rattle.guest_words.specs.Words.{Named}
-use Rattle.guest_input.specs.Asked.{names_to, Asks, AsksFront}
+use Rattle.guest_input.specs.Asked.{all_names, Asks, AsksFront}
 use Rattle.guest_input.specs.Reading.{Reading}
 use Rattle.guest_input.specs.Stopping.{IsNotRead, RefusesFile}
 use Rattle.guest_input.specs.Stops.{stop_line, status_of}
-use Rattle.guest_input.specs.declared.stop.InputFile.TheVariants.{Script}
 use Rattle.guest_input.specs.declared.stop.Stop.{Stop}
 use Rattle.guest_input.specs.declared.stop.Stop.TheVariants.{Refused, NotRead, Module, NoMemory}
 use Rattle.guest_text.specs.Putting.{Putting, Put, PutFront, PutNothing}
 use Rattle.guest_run.specs.declared.program.Ended.{Ended}
-use Rattle.guest_run.specs.Asking.{Asking, Unasked}
+use Rattle.guest_runs.specs.Asking.{Asking, Unasked}
 use Rattle.guest_run.specs.Boots.{BootStops, EndsWithoutMemory}
 
 -- How a run ends before its text (own rule).
@@ -21,9 +20,9 @@ abbrev pub Stopped : {P : Type 0} → Reading → Asking P → Named → Stop �
 Stopped files ports named (Refused file cause) = RefusesFile files named file cause × Unasked ports
 Stopped files ports named (NotRead file) = IsNotRead files named file × Unasked ports
 Stopped files ports named Module =
-    BootStops files.holds ports named × Asks (names_to named Script) files
+    BootStops files.holds ports named × Asks (all_names named) files
 Stopped files ports named NoMemory =
-    AsksFront (names_to named Script) files × EndsWithoutMemory files.holds ports named
+    AsksFront (all_names named) files × EndsWithoutMemory files.holds ports named
 
 -- no run is recorded, and the status is this one
 abbrev pub EndsAt : ℕ → Ended → Type 0

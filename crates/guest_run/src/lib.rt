@@ -1,15 +1,10 @@
-//! The run of a guest: boot, turns, and the ending.
+//! The program: from its arguments to its files, its run and its status.
 #![tactic(auto)]
 
-mod answers;
-mod one;
-mod processor;
 mod program;
-mod room;
 mod run;
-mod spans;
+mod start;
 
-pub use one::turns;
 pub use program::{Ended, plain, top};
 
 #[cfg(test)]

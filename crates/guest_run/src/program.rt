@@ -1,17 +1,17 @@
 //! The program, from its arguments to its status.
-ghost use Rattle.std.specs.Prelude.{◌≡◌, ◌<◌, ◌≤◌, [], None, Some, length, All, IfSome, OnOk, IsErrOf};
+ghost use Rattle.std.specs.Prelude.{◌≡◌, ◌≤◌, [], None, Some, true, length, All, IfErr, IfNone, IfOk, IfSome, IsErrOf, IsSome, OnOk};
 ghost use Rattle.guest_base.specs.declared.limits.TheConstants.{MAX_CPUS};
 ghost use Rattle.guest_input.specs.Reading.{reading};
 ghost use Rattle.guest_text.specs.Printings.{FinalRuns};
 ghost use Rattle.guest_text.specs.Putting.{putting};
-ghost use Rattle.guest_words.specs.Views.{seen};
-ghost use Rattle.guest_words.specs.Words.{bytes_of_words, named_by};
-ghost use Rattle.guest_run.specs.Asking.{asking};
-ghost use Rattle.guest_run.specs.Ends.{outside, Ends, RunEnds};
-ghost use Rattle.guest_run.specs.Recordings.{Booted, KeepsRun};
+ghost use Rattle.guest_words.specs.Views.{named, seen};
+ghost use Rattle.guest_words.specs.Words.{bytes_of_words, cpus_in, is_cpus, named_by};
+ghost use Rattle.guest_runs.specs.Asking.{asking};
+ghost use Rattle.guest_run.specs.Did.{by_turns, Did};
+ghost use Rattle.guest_run.specs.Ends.{outside, RunEnds};
 ghost use Rattle.guest_run.specs.Stopping.{EndsWith, StopEnds};
 
-use crate::run::run;
+use crate::run::{run_by_turns, run_on_threads};
 use event_core::{Recorded, Runs};
 use guest_input::{Stop, print_stop};
 use guest_io::{Files, PutFault, Sink};
@@ -19,6 +19,8 @@ use guest_text::put_run;
 use guest_words::{Names, read_words};
 use page_module::Port;
 use std::alloc::{AllocError, Global};
+use std::sync::Wait;
+use std::thread::Threads;
 
 /// How the program ended.
 #[derive(Debug, Drop)]
@@ -81,43 +83,69 @@ fn end_with_run<K: Sink>(alloc: Global, out: &mut K, recorded: Recorded, runs: &
     }
 }
 
-/// Reads the files that the arguments name, runs the script, and puts the text.
-fn run_named<F: Files, K: Sink, P: Port>(
-    alloc: Global,
-    names: &Names<'_>,
-    files: &mut F,
-    out: &mut K,
-    ports: &mut Vec<P>,
-) -> Ended
-    requires some { 0 < length ports.old.items }
-    requires unmade { All (λ port. P.made port ≡ []) ports.old.items }
-    ensures booted { IfSome result.run (λ r.
-        Booted (F.holds files.old) (Some (seen names.now)) r) }
-    ensures run { IfSome result.run (λ r. KeepsRun
-        (asking P.made P.faults P.never_fails ports.old.items ports.new.items) r) }
-    ensures ends { Ends
-        (outside (reading F.holds F.asked F.faults files.old files.new)
-        (putting K.written K.faults out.old out.new)
-        (asking P.made P.faults P.never_fails ports.old.items ports.new.items))
-        (Some (seen names.now)) result }
+/// What the words name, where they name an order: a run by turns.
+fn names_by_turns(words: &[String]) -> Option<Names<'_>>
+    ensures named { named result ≡ by_turns (named_by (bytes_of_words words.now)) }
+    ensures cpus { IfSome result (λ names. is_cpus (cpus_in (seen names)) ≡ true) }
+    ensures ordered { IfSome result (λ names. IsSome (seen names).order) }
 {
-    match run(alloc, names, files, ports) {
+    let names = read_words(words)?;
+    if names.order.is_some() {
+        Some(names)
+    } else {
+        None
+    }
+}
+
+/// What the words name, where they name files and no order: a run on threads.
+fn names_on_threads(words: &[String]) -> Option<Names<'_>>
+    ensures named { IfSome result (λ names.
+        named_by (bytes_of_words words.now) ≡ Some (seen names)) }
+    ensures cpus { IfSome result (λ names. is_cpus (cpus_in (seen names)) ≡ true) }
+    ensures unordered { IfSome result (λ names. (seen names).order ≡ None) }
+    ensures none { IfNone result (by_turns (named_by (bytes_of_words words.now))
+        ≡ named_by (bytes_of_words words.now)) }
+{
+    let names = read_words(words)?;
+    if names.order.is_none() {
+        Some(names)
+    } else {
+        None
+    }
+}
+
+/// Ends a run of named files: puts its text, or the line of its stop.
+fn end_run<K: Sink>(
+    alloc: Global,
+    out: &mut K,
+    names: &Names<'_>,
+    ran: Result<(Recorded, Runs), Stop>,
+) -> Ended
+    requires final_runs { IfOk ran (λ r. FinalRuns r.0 r.1) }
+    ensures run { IfOk ran (λ r.
+        RunEnds (putting K.written K.faults out.old out.new) r.0 result) }
+    ensures stop { IfErr ran (λ stop. (result.run ≡ None)
+        × StopEnds (putting K.written K.faults out.old out.new) (seen names.now) stop result) }
+{
+    match ran {
         Ok((recorded, runs)) => end_with_run(alloc, out, recorded, &runs),
         Err(stop) => end_by(alloc, out, names, stop),
     }
 }
 
-/// Does what the arguments say, on one thread: `turns ORDER --slots 0 MAP SCRIPT` reads the three files in this order, boots the map
-/// without a pool, runs the script on the first port, and puts the text of the run.
+/// Does what the arguments say, on one thread. `turns ORDER --slots 0 MAP SCRIPT..` reads the files in this order, boots the map
+/// without a pool and with a processor for each of the 1 to 64 scripts, runs each script on the port of its processor, by turns in
+/// the order of ORDER and then round all processors until every script is done, and puts the text of the run.
 ///
 /// `--table FILE` names the table of unaccepted units that an earlier kernel hands on. It is read right after the map, and boot takes
-/// its bits for those of the map. `--areas N` gives the areas of the pool, a power of two from 1 to 64; without it there is 1.
-/// `read_words` tells where options may stand.
+/// its bits for those of the map. `--areas N` gives the areas of the pool, a power of two from 1 to 64; without it there are as many
+/// as scripts, raised to a power of two. `read_words` tells where options may stand.
 ///
-/// Today the order file has to be empty, and the script one of `accept` and `query` lines.
+/// Today scripts have to be of `accept` and `query` lines.
 ///
-/// `booted` says that a recorded run is of the named files, `KeepsRun` what it keeps, and `Ends` how the program ends.
-pub fn plain<F: Files, K: Sink, P: Port>(
+/// It takes no lock and always returns. Other arguments, those of a run on threads among them, are refused with status 2. `Did` says
+/// what came of it.
+pub fn plain<F: Files, K: Sink, P: Port + Send>(
     alloc: Global,
     words: &[String],
     files: &mut F,
@@ -126,24 +154,27 @@ pub fn plain<F: Files, K: Sink, P: Port>(
 ) -> Ended
     requires ports { MAX_CPUS ≤ length ports.old.items }
     requires unmade { All (λ port. P.made port ≡ []) ports.old.items }
-    ensures booted { IfSome result.run (λ r.
-        Booted (F.holds files.old) (named_by (bytes_of_words words.now)) r) }
-    ensures run { IfSome result.run (λ r. KeepsRun
-        (asking P.made P.faults P.never_fails ports.old.items ports.new.items) r) }
-    ensures ends { Ends
+    ensures { Did
         (outside (reading F.holds F.asked F.faults files.old files.new)
         (putting K.written K.faults out.old out.new)
         (asking P.made P.faults P.never_fails ports.old.items ports.new.items))
-        (named_by (bytes_of_words words.now)) result }
+        (by_turns (named_by (bytes_of_words words.now))) result }
 {
-    match read_words(words) {
-        Some(names) => run_named(alloc, &names, files, out, ports),
+    match names_by_turns(words) {
+        Some(names) => {
+            let ran = run_by_turns(alloc, &names, files, ports);
+            end_run(alloc, out, &names, ran)
+        }
         None => end_with_line(alloc, out, 2, "refused: words\n"),
     }
 }
 
-/// Does what the arguments say; today that is what `plain` does.
-pub fn top<F: Files, K: Sink, P: Port>(
+/// Does what the arguments say. `run --slots 0 MAP SCRIPT..` does what `turns` does, but with a thread for each script, which waits for
+/// a lock where it needs the memory; it reads no order, and it returns only if that waiting ends. All else is done by `plain`.
+///
+/// `Did` says what came of it.
+pub fn top<R: Threads + Wait + Sync, F: Files, K: Sink, P: Port + Send>(
+    rt: &R,
     alloc: Global,
     words: &[String],
     files: &mut F,
@@ -152,15 +183,17 @@ pub fn top<F: Files, K: Sink, P: Port>(
 ) -> Ended
     requires ports { MAX_CPUS ≤ length ports.old.items }
     requires unmade { All (λ port. P.made port ≡ []) ports.old.items }
-    ensures booted { IfSome result.run (λ r.
-        Booted (F.holds files.old) (named_by (bytes_of_words words.now)) r) }
-    ensures run { IfSome result.run (λ r. KeepsRun
-        (asking P.made P.faults P.never_fails ports.old.items ports.new.items) r) }
-    ensures ends { Ends
+    ensures { Did
         (outside (reading F.holds F.asked F.faults files.old files.new)
         (putting K.written K.faults out.old out.new)
         (asking P.made P.faults P.never_fails ports.old.items ports.new.items))
         (named_by (bytes_of_words words.now)) result }
 {
-    plain(alloc, words, files, out, ports)
+    match names_on_threads(words) {
+        Some(names) => {
+            let ran = run_on_threads(rt, alloc, &names, files, ports);
+            end_run(alloc, out, &names, ran)
+        }
+        None => plain(alloc, words, files, out, ports),
+    }
 }

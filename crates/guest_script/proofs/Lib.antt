@@ -3,3 +3,5 @@ pub mod LineLemmas
 pub mod NameLemmas
 pub mod ScriptLemmas
 pub mod ReadableLemmas
+pub mod OrderLemmas
+pub mod PrintedOrderLemmas

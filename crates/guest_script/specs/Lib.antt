@@ -5,3 +5,4 @@ pub mod Answers
 pub mod Verbs
 pub mod Commands
 pub mod Script
+pub mod Order

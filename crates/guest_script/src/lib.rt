@@ -8,6 +8,7 @@ mod hex_digits;
 mod lines;
 mod name;
 mod number;
+mod order;
 mod reply;
 mod script;
 mod verb;
@@ -17,6 +18,7 @@ pub use fault::{ScriptFault, Why};
 pub use hex_digits::read_hex;
 pub use name::read_name;
 pub use number::read_number;
+pub use order::{MAX_TURNS, OrderFault, print_order, read_order};
 pub use reply::print_reply;
 pub use script::read_script;
 

@@ -1,6 +1,6 @@
 use super::*;
 use event_core::{Command, Found, Reply};
-use guest_base::{Direction, Items};
+use guest_base::{CpuNo, Direction, Items};
 use std::test::Fail;
 
 #[test]
@@ -147,4 +147,31 @@ fn bytes_and_numbers(rt: HostRuntime) -> Result<(), Fail> {
     assert_eq!(rt; read_number(b"0x0F"), Some(15));
     assert!(rt; read_name(b"a_1").is_some());
     Ok(())
+}
+
+#[test]
+fn an_order(rt: HostRuntime) -> Result<(), Fail> {
+    let text = b"0 1\t\n# 7 no turn\n\n0x1 00 # 2\n1";
+    let order = read_order(rt.alloc(), text, 2)?;
+    assert_eq!(rt;
+        order.as_slice(),
+        [CpuNo(0), CpuNo(1), CpuNo(1), CpuNo(0), CpuNo(1)].as_slice()
+    );
+    let printed = print_order(rt.alloc(), &order)?;
+    assert_eq!(rt; printed.as_slice(), b"0\n1\n1\n0\n1\n".as_slice());
+    assert!(rt; read_order(rt.alloc(), b"", 1)?.is_empty());
+    Ok(())
+}
+
+#[test]
+fn first_faults_of_orders(rt: HostRuntime) {
+    for (text, fault) in [
+        (b"0 1 2".as_slice(), OrderFault::Word(3)),
+        (b"# 5\n0\n 1,\n7".as_slice(), OrderFault::Word(2)),
+        (b"0\r\n".as_slice(), OrderFault::Word(1)),
+        (b"1#".as_slice(), OrderFault::Word(1)),
+        (b"1 18446744073709551616".as_slice(), OrderFault::Word(2)),
+    ] {
+        assert_eq!(rt; read_order(rt.alloc(), text, 2).err(), Some(fault));
+    }
 }

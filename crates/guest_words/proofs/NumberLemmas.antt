@@ -1,8 +1,13 @@
-use Rattle.std.proofs.Common.{ℕ, suc, ◌+◌, ◌≡◌, ◌≤◌, ◌^◌, ◌==◌, ◌||◌, Bool, true, false, refl, sym, ◌∙◌, ap, arith, [], Some, inl, inr, nat_le, unwrap_or}
-use Rattle.std.proofs.lemmas.Bool.{cases_Bool}
+use Rattle.std.proofs.Common.{ℕ, zero, suc, ◌+◌, ◌/◌, ◌≡◌, ◌≤◌, ◌<◌, ◌^◌, ◌==◌, ◌||◌, Bool, true, false, sym, ◌∙◌, ap, arith, inl, inr, leb, max, unwrap_or, subst, ⊎_elim}
+use Rattle.std.proofs.Math.Nat.{pow-succ'}
+use Rattle.std.proofs.Math.Pow.{pow_mono}
+use Rattle.std.proofs.lemmas.Bool.{cases_Bool, cases_lt, le-leb, lt-leb}
+use Rattle.std.proofs.lemmas.Bool.Decides.{nat_tests}
+use Rattle.std.specs.Int.{IsPowerOfTwo}
+use Rattle.guest_base.specs.Requests.{raised_to_power}
 use Rattle.guest_base.specs.Search.{any_such}
-use Rattle.guest_base.proofs.SearchLemmas.{any_such-pass, any_such-fail, any_such-zero, first_such-pass}
-use Rattle.guest_words.specs.Words.{is_areas, areas_of}
+use Rattle.guest_base.proofs.SearchLemmas.{IsFirstSuch, any_such-pass, any_such-fail, any_such-zero, any_such_is, first_such_is}
+use Rattle.guest_words.specs.Words.{is_areas, is_cpus}
 
 any_step : (test : ℕ → Bool) (from count : ℕ) → any_such test from (suc count) ≡ (test from || any_such test (from + 1) count)
 any_step test from count =
@@ -27,9 +32,53 @@ areas_told count =
 pub areas_small : (count : ℕ) → is_areas count ≡ true → count ≤ 64
 areas_small count h = let told = sym (areas_told count) ∙ h in grind (arith, told)
 
--- one script has one area
-pub one_is : is_areas 1 ≡ true
-one_is = any_such-pass (λ order. 1 == 2 ^ order) 0 6 refl
+-- ---- a power of two from a number on
 
-pub one_area : areas_of 1 [] ≡ Some 1
-one_area = ap (λ found. Some (2 ^ unwrap_or found 0)) (first_such-pass (λ k. nat_le 1 (2 ^ k)) 0 1 refl)
+-- a number is below its power of two
+exponent_below : (k : ℕ) → k + 1 ≤ 2 ^ k
+exponent_below zero = omega arith
+exponent_below (suc k) = omega (arith, exponent_below k, pow-succ' 2 k)
+
+-- the exponent of the least power of two that is at least n
+is_first : (n k : ℕ) → n ≤ 2 ^ k → 2 ^ k / 2 < max 1 n → IsFirstSuch (λ e. leb n (2 ^ e)) 0 (n + 1) k
+is_first n zero above close = record {
+  low = omega arith;
+  high = omega arith;
+  passes = le-leb _ _ above;
+  before = λ e _ less. absurd (omega arith);
+}
+is_first n (suc j) above close = record {
+  low = omega arith;
+  high = omega (arith, pow-succ' 2 j, exponent_below j);
+  passes = le-leb _ _ above;
+  before = λ e _ less.
+      let below : 2 ^ e ≤ 2 ^ j = pow_mono (omega arith) in
+      lt-leb _ _ (omega (arith, pow-succ' 2 j, below, exponent_below j));
+}
+
+-- the least power of two that is at least n
+pub raises : (n p : ℕ) → IsPowerOfTwo p → n ≤ p → p / 2 < max 1 n → p ≡ raised_to_power n
+raises n p power above close =
+    let k : ℕ = power.0 in
+    let e : p ≡ 2 ^ k = power.1 in
+    let found = first_such_is (λ e. leb n (2 ^ e)) 0 (n + 1) k (is_first n k (subst (λ q. n ≤ q) e above) (subst (λ q. q / 2 < max 1 n) e close)) in
+    sym (ap (λ o. 2 ^ unwrap_or o 0) found ∙ sym e)
+
+exponent_small : (k n : ℕ) → 2 ^ k / 2 < max 1 n → n ≤ 64 → k < 7
+exponent_small zero n close few = omega arith
+exponent_small (suc j) n close few =
+    ⊎_elim
+    (λ (low : j < 6). omega (arith, low))
+    (λ (high : 6 ≤ j). let m : 2 ^ 6 ≤ 2 ^ j = pow_mono high in absurd (omega (arith, m, close, few, pow-succ' 2 j)))
+    (cases_lt j 6)
+
+cpus_few : (n : ℕ) → is_cpus n ≡ true → n ≤ 64
+cpus_few n h = grind (arith, nat_tests, h)
+
+-- as many areas as processors, raised to a power of two
+pub of_areas : (n p : ℕ) → is_cpus n ≡ true → IsPowerOfTwo p → n ≤ p → p / 2 < max 1 n → is_areas p ≡ true
+of_areas n p few power above close =
+    let k : ℕ = power.0 in
+    let e : p ≡ 2 ^ k = power.1 in
+    let same : (p == 2 ^ k) ≡ true = grind (arith, nat_tests, e) in
+    any_such_is (λ order. p == 2 ^ order) 0 7 k (omega arith) (exponent_small k n (subst (λ q. q / 2 < max 1 n) e close) (cpus_few n few)) same

@@ -2,10 +2,11 @@ use Rattle.std.specs.Prelude.{ℕ, ◌&&◌, nat_le, if◌then◌else◌, List, 
 use Rattle.std.specs.Borrow.{Bor}
 use Rattle.guest_words.specs.declared.place.Choice.{Choice}
 use Rattle.guest_words.specs.declared.place.Place.{Place}
-use Rattle.guest_words.specs.declared.told.Files.{Files}
-use Rattle.guest_words.specs.declared.told.Files.TheVariants.{Empty, Order, Map, Script}
+use Rattle.guest_words.specs.declared.mode.Mode.{Mode}
 use Rattle.guest_words.specs.declared.told.SoFar.{SoFar}
-use Rattle.guest_words.specs.Words.{Told, Named, joined, part_of, value_part, option_part, choice_of, name_in, value_in, end_at, turns_of, ◌>>=◌}
+use Rattle.guest_script.specs.Words.{texts}
+use Rattle.guest_words.specs.declared.told.TheConstants.{MAX_PLAIN}
+use Rattle.guest_words.specs.Words.{Told, Named, joined, part_of, value_part, option_part, choice_of, name_in, value_in, end_at, named_of, ◌>>=◌}
 
 -- What is told so far, as the reader keeps it.
 
@@ -14,16 +15,9 @@ abbrev pub listed : Option (Bor (List ℕ)) → List (List ℕ)
 listed None = []
 listed (Some value) = value.now ∷ []
 
--- the plain words
-abbrev pub plain_words : Files → List (List ℕ)
-plain_words Empty = []
-plain_words (Order order) = order.now ∷ []
-plain_words (Map order map) = order.now ∷ map.now ∷ []
-plain_words (Script order map script) = order.now ∷ map.now ∷ script.now ∷ []
-
 abbrev pub told : SoFar → Told
 told so_far = record {
-  plain = plain_words so_far.files;
+  plain = texts so_far.plain.items;
   slots = listed so_far.slots;
   areas = listed so_far.areas;
   table = listed so_far.table;
@@ -33,10 +27,10 @@ abbrev pub standing : Option SoFar → Option (Place × Told)
 standing None = None
 standing (Some so_far) = Some (so_far.place, told so_far)
 
--- at most three plain words, and each option once
+-- few enough plain words, and each option once
 abbrev pub is_small : Told → Bool
 is_small t =
-    nat_le (length t.plain) 3
+    nat_le (length t.plain) MAX_PLAIN
     && (nat_le (length t.slots) 1 && (nat_le (length t.areas) 1 && nat_le (length t.table) 1))
 
 -- what is told and the next word's place after one more word, while that is small
@@ -54,5 +48,5 @@ abbrev pub next_of : Place → Told → List ℕ → Option (Place × Told)
 next_of place before word = part_of place word >>= told_after before
 
 -- what the words name that tell this and no more
-abbrev pub names_of : Place → Told → Option Named
-names_of place all = end_at place >>= (λ _. turns_of all)
+abbrev pub names_of : Mode → Place → Told → Option Named
+names_of mode place all = end_at place >>= (λ _. named_of mode all)

@@ -1,5 +1,6 @@
 use Rattle.std.specs.Prelude.{ℕ, List, Option, None, Some}
 use Rattle.std.specs.Borrow.{Bor}
+use Rattle.guest_script.specs.Words.{texts}
 use Rattle.guest_words.specs.declared.words.Names.{Names}
 use Rattle.guest_words.specs.Words.{Named}
 
@@ -11,11 +12,11 @@ text_in (Some text) = Some text.now
 
 abbrev pub seen : Names → Named
 seen names = record {
-  order = names.order.now;
+  order = text_in names.order;
   areas = names.areas;
   table = text_in names.table;
   map = names.map.now;
-  script = names.script.now;
+  scripts = texts names.scripts.items;
 }
 
 abbrev pub named : Option Names → Option Named

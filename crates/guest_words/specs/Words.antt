@@ -1,20 +1,23 @@
-use Rattle.std.specs.Prelude.{ℕ, ◌+◌, ◌^◌, ◌==◌, ◌||◌, Bool, false, not, if◌then◌else◌, List, [], ◌∷◌, ◌++◌, codes, drop, position, Option, Some, None, String, string_bytes, map}
+use Rattle.std.specs.Prelude.{ℕ, ◌+◌, ◌^◌, ◌==◌, ◌&&◌, ◌||◌, nat_le, Bool, false, not, if◌then◌else◌, List, [], ◌∷◌, ◌++◌, length, codes, drop, position, Option, Some, None, String, string_bytes, map}
 use Rattle.std.specs.List.{before_first}
 use Rattle.std.specs.Option.{option_map}
 use Rattle.std.specs.Str.{bytes_eq}
 use Rattle.std.specs.declared.alloc.Global.{Global}
 use Rattle.guest_base.specs.Requests.{raised_to_power}
 use Rattle.guest_base.specs.Search.{any_such}
-use Rattle.guest_base.specs.declared.limits.TheConstants.{MAX_SLOTS}
+use Rattle.guest_base.specs.declared.limits.TheConstants.{MAX_CPUS, MAX_SLOTS}
 use Rattle.guest_words.specs.declared.numbers.TheConstants.{USUAL_SLOTS}
 use Rattle.guest_script.specs.Number.{number_of}
 use Rattle.guest_script.specs.Arguments.{bounded}
+use Rattle.guest_words.specs.declared.mode.Mode.{Mode}
+use Rattle.guest_words.specs.declared.mode.Mode.TheVariants.{Turns, Threads}
 use Rattle.guest_words.specs.declared.place.Choice.{Choice}
 use Rattle.guest_words.specs.declared.place.Choice.TheVariants.{Slots, Areas, Table}
 use Rattle.guest_words.specs.declared.place.Place.{Place}
 use Rattle.guest_words.specs.declared.place.Place.TheVariants.{Open, Value, Ended}
 
--- The words of a run (own rule): `turns`, and then ORDER MAP SCRIPT, with options at any place behind `turns`.
+-- The words of a run (own rule): `turns`, and then ORDER MAP SCRIPT.., or `run`, and then
+-- MAP SCRIPT.., with 1 to 64 scripts, and options at any place behind the first word.
 
 -- the ? of the logic: what follows, where there is a value
 infixl 10 ◌>>=◌
@@ -75,8 +78,9 @@ begins_with_dash (b ∷ bs) = b == 45
 abbrev pub is_plain : List ℕ → Bool
 is_plain word = not (begins_with_dash word) || bytes_eq word (codes "-")
 
--- What a word tells where it stands, and where the next word stands. None where it may not stand there: the value
--- of an option begins with no dash, and a word that begins with one is an option, `--`, or a dash alone.
+-- What a word tells where it stands, and where the next word stands. None where it may not stand
+-- there: the value of an option begins with no dash, and a word that begins with one is an option,
+-- `--`, or a dash alone.
 abbrev pub value_part : Choice → List ℕ → Option (Place × Told)
 value_part choice value = if begins_with_dash value then None else Some (Open, valued choice value)
 
@@ -133,33 +137,65 @@ table_of [] = Some None
 table_of (value ∷ []) = Some (Some value)
 table_of (value ∷ other ∷ values) = None
 
--- what the words of a run name: files, and the areas of the pool
+-- what the words of a run name: files, and the areas of the pool; a run on threads has no order
 pub record Named : Type 0 where
-  pub order : List ℕ
+  pub order : Option (List ℕ)
   pub areas : ℕ
   pub table : Option (List ℕ)
   pub map : List ℕ
-  pub script : List ℕ
+  pub scripts : List (List ℕ)
 
--- ORDER MAP SCRIPT; more scripts aren't built
-abbrev pub files_of : ℕ → Option (List ℕ) → List (List ℕ) → Option Named
-files_of areas table (order ∷ map ∷ script ∷ []) =
-    Some (record { order = order; areas = areas; table = table; map = map; script = script })
-files_of areas table _ = None
+-- the number of processors: a script for each
+abbrev pub cpus_in : Named → ℕ
+cpus_in named = length named.scripts
 
--- a pool isn't built: only no slots
-abbrev pub turns_of : Told → Option Named
-turns_of told = do
+-- there are 1 to 64 processors
+abbrev pub is_cpus : ℕ → Bool
+is_cpus count = nat_le 1 count && nat_le count MAX_CPUS
+
+-- a run of these files, with the options that are told; a pool isn't built: only no slots
+abbrev pub run_with : Option (List ℕ) → List ℕ → List (List ℕ) → Told → Option Named
+run_with order map scripts told = do
   slots ← slots_of told.slots
-  areas ← areas_of 1 told.areas
+  areas ← areas_of (length scripts) told.areas
   table ← table_of told.table
-  if slots == 0 then files_of areas table told.plain else None
+  if slots == 0
+      then Some (record {
+        order = order;
+        areas = areas;
+        table = table;
+        map = map;
+        scripts = scripts;
+      })
+      else None
 
--- the words behind `turns`
-abbrev pub turns_by : List (List ℕ) → Option Named
-turns_by words = told_by Open words >>= turns_of
+-- MAP SCRIPT.., with 1 to 64 scripts
+abbrev pub run_of : Option (List ℕ) → List (List ℕ) → Told → Option Named
+run_of order [] told = None
+run_of order (map ∷ scripts) told =
+    if is_cpus (length scripts) then run_with order map scripts told else None
+
+-- the plain words: of turns an order stands before the map
+abbrev pub files_of : Mode → List (List ℕ) → Told → Option Named
+files_of Turns [] told = None
+files_of Turns (order ∷ words) told = run_of (Some order) words told
+files_of Threads words told = run_of None words told
+
+abbrev pub named_of : Mode → Told → Option Named
+named_of mode told = files_of mode told.plain told
+
+-- how the scripts are run, by the first word
+abbrev pub mode_of : List ℕ → Option Mode
+mode_of command =
+    if bytes_eq command (codes "turns") then Some Turns
+    else if bytes_eq command (codes "run") then Some Threads
+    else None
+
+-- the words behind the first
+abbrev pub named_as : Mode → List (List ℕ) → Option Named
+named_as mode words = told_by Open words >>= named_of mode
 
 -- what the words name; none exactly where they aren't in the grammar
 abbrev pub named_by : List (List ℕ) → Option Named
 named_by [] = None
-named_by (command ∷ words) = if bytes_eq command (codes "turns") then turns_by words else None
+named_by (command ∷ words) = mode_of command >>= (λ mode. named_as mode words)

@@ -1,6 +1,7 @@
 //! The numbers among the options.
 ghost use Rattle.std.specs.Prelude.{◌≡◌, IfSome, true};
-ghost use Rattle.guest_words.specs.Words.{slots_of, areas_of, areas_in, is_areas};
+ghost use Rattle.guest_words.specs.Words.{slots_of, areas_of, areas_in, is_areas, is_cpus};
+ghost use Rattle.guest_base.specs.Requests.{raised_to_power};
 ghost use Rattle.guest_words.specs.Steps.{listed};
 
 use guest_base::limits::MAX_SLOTS;
@@ -24,16 +25,27 @@ pub(crate) fn read_slots(value: Option<&str>) -> Option<u32>
     }
 }
 
-/// The areas of the pool of a run with one script. None where the value is no power of two from 1 to 64.
-#[tactic(auto, using(crate::proofs::NumberLemmas::one_area, crate::proofs::NumberLemmas::one_is))]
-pub(crate) fn read_areas(value: Option<&str>) -> Option<u32>
-    ensures told { result ≡ areas_of 1 (listed value.entry) }
+/// The areas of the pool: where the words give none, the number of processors, raised to a power of two.
+/// None where the value is no power of two from 1 to 64.
+pub(crate) fn read_areas(value: Option<&str>, cpus: u32) -> Option<u32>
+    requires cpus { is_cpus cpus ≡ true }
+    ensures told { result ≡ areas_of cpus (listed value.entry) }
     ensures power { IfSome result (λ areas. is_areas areas ≡ true) }
 {
     match value {
-        None => Some(1),
+        None => Some(raised(cpus)),
         Some(value) => areas_in(read_number(value.as_bytes())?),
     }
+}
+
+/// A number of processors, raised to a power of two.
+#[tactic(auto, using(crate::proofs::NumberLemmas::raises, crate::proofs::NumberLemmas::of_areas))]
+fn raised(cpus: u32) -> u32
+    requires cpus { is_cpus cpus ≡ true }
+    ensures raised { result ≡ raised_to_power cpus }
+    ensures power { is_areas result ≡ true }
+{
+    cpus.next_power_of_two()
 }
 
 #[tactic(auto, using(crate::proofs::NumberLemmas::areas_small))]

@@ -11,6 +11,15 @@ fn words_of(alloc: Global, line: &str) -> Result<Vec<String>, AllocError> {
     Ok(words)
 }
 
+/// Words with this many scripts behind these.
+fn words_with(alloc: Global, line: &str, scripts: usize) -> Result<Vec<String>, AllocError> {
+    let mut words = words_of(alloc, line)?;
+    for _ in 0..scripts {
+        words.push(String::from_str(alloc, "s")?)?;
+    }
+    Ok(words)
+}
+
 /// Whether the words of a line are in the grammar.
 fn is_read(alloc: Global, line: &str) -> Result<bool, AllocError> {
     let words = words_of(alloc, line)?;
@@ -18,14 +27,43 @@ fn is_read(alloc: Global, line: &str) -> Result<bool, AllocError> {
 }
 
 #[test]
-fn the_three_files(rt: HostRuntime) -> Result<(), Fail> {
+fn one_script(rt: HostRuntime) -> Result<(), Fail> {
     let words = words_of(rt.alloc(), "turns O --slots 0 A s")?;
     let names = read_words(words.as_slice()).ok_or("refused")?;
-    assert_eq!(rt; names.order, "O");
+    assert_eq!(rt; names.order.unwrap_or("none"), "O");
     assert_eq!(rt; names.areas, 1);
     assert!(rt; names.table.is_none());
     assert_eq!(rt; names.map, "A");
-    assert_eq!(rt; names.script, "s");
+    assert_eq!(rt; names.scripts.as_slice(), ["s"].as_slice());
+    Ok(())
+}
+
+#[test]
+fn scripts_on_threads(rt: HostRuntime) -> Result<(), Fail> {
+    let words = words_of(rt.alloc(), "run A --slots 0 s0 s1 s2")?;
+    let names = read_words(words.as_slice()).ok_or("refused")?;
+    assert!(rt; names.order.is_none());
+    assert_eq!(rt; names.areas, 4);
+    assert_eq!(rt; names.map, "A");
+    assert_eq!(rt; names.scripts.as_slice(), ["s0", "s1", "s2"].as_slice());
+    assert_eq!(rt; names.cpus(), 3);
+    Ok(())
+}
+
+#[test]
+fn sixty_four_scripts(rt: HostRuntime) -> Result<(), Fail> {
+    let alloc = rt.alloc();
+    for line in ["turns --slots 0 O A", "run --slots 0 A"] {
+        let words = words_with(alloc, line, 64)?;
+        let names = read_words(words.as_slice()).ok_or("refused")?;
+        assert_eq!(rt; names.cpus(), 64);
+        assert_eq!(rt; names.areas, 64);
+        let words = words_with(alloc, line, 65)?;
+        assert!(rt; read_words(words.as_slice()).is_none());
+        let words = words_with(alloc, line, 33)?;
+        let names = read_words(words.as_slice()).ok_or("refused")?;
+        assert_eq!(rt; names.areas, 64);
+    }
     Ok(())
 }
 
@@ -33,11 +71,11 @@ fn the_three_files(rt: HostRuntime) -> Result<(), Fail> {
 fn options_anywhere(rt: HostRuntime) -> Result<(), Fail> {
     let words = words_of(rt.alloc(), "turns --table=T=1 --areas 4 O --slots 0 - s")?;
     let names = read_words(words.as_slice()).ok_or("refused")?;
-    assert_eq!(rt; names.order, "O");
+    assert_eq!(rt; names.order.unwrap_or("none"), "O");
     assert_eq!(rt; names.areas, 4);
     assert_eq!(rt; names.table.unwrap_or("none"), "T=1");
     assert_eq!(rt; names.map, "-");
-    assert_eq!(rt; names.script, "s");
+    assert_eq!(rt; names.scripts.as_slice(), ["s"].as_slice());
     Ok(())
 }
 
@@ -56,12 +94,12 @@ fn in_both_spellings(rt: HostRuntime) -> Result<(), Fail> {
 fn behind_the_options(rt: HostRuntime) -> Result<(), Fail> {
     let words = words_of(rt.alloc(), "turns --slots 0 -- O A -s")?;
     let names = read_words(words.as_slice()).ok_or("refused")?;
-    assert_eq!(rt; names.script, "-s");
+    assert_eq!(rt; names.scripts.as_slice(), ["-s"].as_slice());
     let words = words_of(rt.alloc(), "turns --slots 0 -- -- --slots -")?;
     let names = read_words(words.as_slice()).ok_or("refused")?;
-    assert_eq!(rt; names.order, "--");
+    assert_eq!(rt; names.order.unwrap_or("none"), "--");
     assert_eq!(rt; names.map, "--slots");
-    assert_eq!(rt; names.script, "-");
+    assert_eq!(rt; names.scripts.as_slice(), ["-"].as_slice());
     Ok(())
 }
 
@@ -72,9 +110,9 @@ fn empty_words(rt: HostRuntime) -> Result<(), Fail> {
     words.push(String::new(alloc))?;
     words.push(String::new(alloc))?;
     let names = read_words(words.as_slice()).ok_or("refused")?;
-    assert_eq!(rt; names.order, "A");
+    assert_eq!(rt; names.order.unwrap_or("none"), "A");
     assert_eq!(rt; names.map, "s");
-    assert_eq!(rt; names.script, "");
+    assert_eq!(rt; names.scripts.as_slice(), [""].as_slice());
     assert_eq!(rt; names.table.unwrap_or("none"), "");
     Ok(())
 }
@@ -140,8 +178,13 @@ fn other_words(rt: HostRuntime) -> Result<(), Fail> {
         "turns --slots 0",
         "turns --slots 0 O",
         "turns --slots 0 O A",
-        "turns --slots 0 O A s s",
-        "turns --slots 0 -- O A s s",
+        "turns --slots 0 -- O A",
+        "run",
+        "run --slots 0",
+        "run --slots 0 A",
+        "run A s",
+        "run --slots 0 A --order s",
+        "Run --slots 0 A s",
         "show A",
         "-- turns --slots 0 O A s",
         "--slots 0 turns O A s",

@@ -1,34 +1,44 @@
 //! What the words tell so far.
-ghost use Rattle.std.specs.Prelude.{◌≡◌, IfSome, true};
-ghost use Rattle.guest_words.specs.Words.{nothing, plain_word, is_areas};
+ghost use Rattle.std.specs.Prelude.{◌≡◌, IfSome, IfNone, OnSome, Some, length, true, false};
+ghost use Rattle.guest_script.specs.Words.{texts};
+ghost use Rattle.guest_words.specs.Words.{nothing, plain_word, is_areas, is_cpus, cpus_in, run_of};
 ghost use Rattle.guest_words.specs.Steps.{told, standing, told_after, value_of, option_of, next_of, names_of};
-ghost use Rattle.guest_words.specs.Views.{named};
+ghost use Rattle.guest_words.specs.Views.{named, seen, text_in};
 ghost use Rattle.guest_words.specs.declared.place.Place.TheVariants.{Open as AtOpen};
 
+use crate::mode::Mode;
 use crate::numbers::{read_areas, read_slots};
 use crate::place::{Choice, Place, begins_with_dash, choice_of, is_plain, split_word};
-use crate::words::Names;
+use crate::words::{MAX_SCRIPTS, Names};
+use arrayvec::ArrayVec;
 
-/// The plain words, of which there are three at most.
-#[derive(Clone, Copy, Debug)]
-pub(crate) enum Files<'a> {
-    Empty,
-    Order(&'a str),
-    Map(&'a str, &'a str),
-    Script(&'a str, &'a str, &'a str),
-}
+/// The most plain words: an order, a map and the scripts.
+const MAX_PLAIN: usize = MAX_SCRIPTS + 2;
 
 /// What the words tell so far, and where the next one stands.
-#[derive(Clone, Copy, Debug)]
+#[derive(Debug, Drop)]
 pub(crate) struct SoFar<'a> {
-    pub(crate) place: Place,
-    pub(crate) files: Files<'a>,
-    pub(crate) slots: Option<&'a str>,
-    pub(crate) areas: Option<&'a str>,
-    pub(crate) table: Option<&'a str>,
+    place: Place,
+    plain: ArrayVec<&'a str, MAX_PLAIN>,
+    slots: Option<&'a str>,
+    areas: Option<&'a str>,
+    table: Option<&'a str>,
 }
 
 impl<'a> SoFar<'a> {
+    /// Before the first word.
+    pub(crate) fn new() -> Self
+        ensures { standing (Some result) ≡ Some (AtOpen, nothing) }
+    {
+        SoFar {
+            place: Place::Open,
+            plain: ArrayVec::new(),
+            slots: None,
+            areas: None,
+            table: None,
+        }
+    }
+
     /// With the next word. None where it may not stand there, or tells too much.
     #[tactic(auto, unfolding(crate::specs::Words::part_of))]
     pub(crate) fn with_word(self, word: &'a str) -> Option<Self>
@@ -74,21 +84,16 @@ impl<'a> SoFar<'a> {
         SoFar { place, ..self }
     }
 
-    /// With a plain word, and the next one at a place. None where there are three already.
-    fn with_plain(self, place: Place, word: &'a str) -> Option<Self>
+    /// With a plain word, and the next one at a place. None where there are as many as may be.
+    fn with_plain(mut self, place: Place, word: &'a str) -> Option<Self>
         ensures { standing result ≡ told_after (told self.entry) (place, plain_word word.now) }
     {
-        let files = match self.files {
-            Files::Empty => Files::Order(word),
-            Files::Order(order) => Files::Map(order, word),
-            Files::Map(order, map) => Files::Script(order, map, word),
-            Files::Script(..) => return None,
-        };
-        Some(SoFar {
-            place,
-            files,
-            ..self
-        })
+        if self.plain.is_full() {
+            return None;
+        }
+        self.plain.push(word);
+        self.place = place;
+        Some(self)
     }
 
     /// With the value of an option. None where it begins with a dash, or the option has one already.
@@ -119,18 +124,35 @@ impl<'a> SoFar<'a> {
     }
 
     /// What the words name. None where they end too early, or what they tell isn't of a run.
-    pub(crate) fn names(self) -> Option<Names<'a>>
-        ensures named { named result ≡ names_of self.entry.place (told self.entry) }
-        ensures power { IfSome result (λ names. is_areas names.areas ≡ true) }
+    pub(crate) fn names(&self, mode: Mode) -> Option<Names<'a>>
+        ensures named { named result ≡ names_of mode self.now.place (told self.now) }
+        ensures areas { IfSome result (λ names. is_areas names.areas ≡ true) }
+        ensures cpus { IfSome result (λ names. is_cpus (cpus_in (seen names)) ≡ true) }
     {
         if let Place::Value(_) = self.place {
             return None;
         }
-        let slots = read_slots(self.slots)?;
-        let areas = read_areas(self.areas)?;
-        let Files::Script(order, map, script) = self.files else {
+        match (mode, self.plain.as_slice()) {
+            (Mode::Turns, []) => None,
+            (Mode::Turns, [order, files @ ..]) => self.names_of(Some(*order), files),
+            (Mode::Threads, files) => self.names_of(None, files),
+        }
+    }
+
+    /// What a map and scripts name, with the options. None where these aren't a map and 1 to 64 scripts, or the options aren't
+    /// those of a run.
+    fn names_of(&self, order: Option<&'a str>, files: &[&'a str]) -> Option<Names<'a>>
+        ensures named { named result
+            ≡ run_of (text_in order.entry) (texts files.now) (told self.now) }
+        ensures areas { IfSome result (λ names. is_areas names.areas ≡ true) }
+        ensures cpus { IfSome result (λ names. is_cpus (cpus_in (seen names)) ≡ true) }
+    {
+        let [map, scripts @ ..] = files else {
             return None;
         };
+        let scripts = scripts_in(scripts)?;
+        let slots = read_slots(self.slots)?;
+        let areas = read_areas(self.areas, scripts.len() as u32)?;
         if slots != 0 {
             return None;
         }
@@ -138,8 +160,22 @@ impl<'a> SoFar<'a> {
             order,
             areas,
             table: self.table,
-            map,
-            script,
+            map: *map,
+            scripts,
         })
     }
+}
+
+/// The scripts' names, where they are 1 to 64.
+fn scripts_in<'a>(names: &[&'a str]) -> Option<ArrayVec<&'a str, MAX_SCRIPTS>>
+    ensures some { IfSome result (λ scripts. texts scripts.items ≡ texts names.now) }
+    ensures cpus { OnSome result (is_cpus (length names.now) ≡ true) }
+    ensures none { IfNone result (is_cpus (length names.now) ≡ false) }
+{
+    if names.is_empty() {
+        return None;
+    }
+    let mut scripts = ArrayVec::new();
+    scripts.try_extend_from_slice(names).ok()?;
+    Some(scripts)
 }

@@ -1,57 +1,66 @@
 //! The words of a run.
 ghost use Rattle.std.specs.Prelude.{◌≡◌, true, IfSome};
-ghost use Rattle.guest_words.specs.Words.{bytes_of_words, named_by, turns_by, is_areas};
-ghost use Rattle.guest_words.specs.Views.{named};
+ghost use Rattle.guest_words.specs.Words.{bytes_of_words, cpus_in, is_areas, is_cpus, named_as, named_by};
+ghost use Rattle.guest_words.specs.Views.{named, seen};
 
-use crate::place::Place;
-use crate::told::{Files, SoFar};
+use crate::mode::{Mode, mode_of};
+use crate::told::SoFar;
+use arrayvec::ArrayVec;
+use guest_base::limits::MAX_CPUS;
+
+/// The greatest number of scripts, and so of processors.
+pub const MAX_SCRIPTS: usize = MAX_CPUS as usize;
 
 /// What the words of a run name.
-#[derive(Clone, Copy, Debug)]
+#[derive(Debug, Drop)]
 pub struct Names<'a> {
-    /// The file of the order.
-    pub order: &'a str,
+    /// The file of the order, of a run by turns.
+    pub order: Option<&'a str>,
     /// The areas of the pool: a power of two from 1 to 64.
     pub areas: u32,
     /// The file of an earlier kernel's table.
     pub table: Option<&'a str>,
     /// The file of the map.
     pub map: &'a str,
-    /// The file of the script.
-    pub script: &'a str,
+    /// The files of the scripts, 1 to 64, in the order of their processors.
+    pub scripts: ArrayVec<&'a str, MAX_SCRIPTS>,
 }
 
-/// What the words name. None exactly where they aren't in the grammar: `turns`, and then ORDER MAP SCRIPT with
-/// the options `--slots N`, `--areas N` and `--table FILE` at any place behind `turns`, each at most once, and spelt
-/// also `--slots=N`. `--` ends the options, and a value begins with no dash. N of `--slots` has to be given and to be 0;
-/// N of `--areas` is a power of two from 1 to 64, and 1 where none is given. Takes no memory.
+impl Names<'_> {
+    /// The number of processors: a script for each.
+    pub fn cpus(&self) -> u32
+        ensures { result ≡ cpus_in (seen self.now) }
+    {
+        self.scripts.len() as u32
+    }
+}
+
+/// What the words name. None exactly where they aren't in the grammar: `turns`, and then ORDER MAP SCRIPT.., or `run`, and then
+/// MAP SCRIPT.., with 1 to 64 scripts, and the options `--slots N`, `--areas N` and `--table FILE` at any place behind the first
+/// word, each at most once, and spelt also `--slots=N`. `--` ends the options, and a value begins with no dash. N of `--slots`
+/// has to be given and to be 0; N of `--areas` is a power of two from 1 to 64, and where none is given the number of scripts,
+/// raised to a power of two. Takes no memory.
 pub fn read_words(words: &[String]) -> Option<Names<'_>>
     ensures named { named result ≡ named_by (bytes_of_words words.now) }
-    ensures power { IfSome result (λ names. is_areas names.areas ≡ true) }
+    ensures areas { IfSome result (λ names. is_areas names.areas ≡ true) }
+    ensures cpus { IfSome result (λ names. is_cpus (cpus_in (seen names)) ≡ true) }
 {
     let [command, rest @ ..] = words else {
         return None;
     };
-    if command.as_str() != "turns" {
-        return None;
-    }
-    read_turns(rest)
+    let mode = mode_of(command.as_str())?;
+    read_run(mode, rest)
 }
 
-/// What the words behind `turns` name.
-fn read_turns(words: &[String]) -> Option<Names<'_>>
-    ensures named { named result ≡ turns_by (bytes_of_words words.now) }
-    ensures power { IfSome result (λ names. is_areas names.areas ≡ true) }
+/// What the words behind the first name.
+fn read_run(mode: Mode, words: &[String]) -> Option<Names<'_>>
+    ensures named { named result ≡ named_as mode (bytes_of_words words.now) }
+    ensures areas { IfSome result (λ names. is_areas names.areas ≡ true) }
+    ensures cpus { IfSome result (λ names. is_cpus (cpus_in (seen names)) ≡ true) }
 {
-    let mut so_far = SoFar {
-        place: Place::Open,
-        files: Files::Empty,
-        slots: None,
-        areas: None,
-        table: None,
-    };
+    let mut so_far = SoFar::new();
     for word in words {
         so_far = so_far.with_word(word.as_str())?;
     }
-    so_far.names()
+    so_far.names(mode)
 }

@@ -1,0 +1,80 @@
+use Rattle.std.proofs.Common.{◌≡◌, ℕ, zero, suc, ◌+◌, ◌≤◌, Some, List, [], ◌∷◌, refl, sym, ◌∙◌, ap, subst, arith, length, map, slice_get}
+use Rattle.std.specs.Prelude.{All}
+use Rattle.std.proofs.lemmas.List.{length-map}
+use Rattle.std.proofs.lemmas.List.Elements.{All-nil, All-cons, All-head, All-tail}
+use Rattle.guest_base.specs.declared.limits.TheConstants.{MAX_COMMANDS}
+use Rattle.event_core.specs.declared.boot.Boot.{Boot}
+use Rattle.event_core.specs.declared.command.Command.{Command}
+use Rattle.event_core.specs.declared.module_call.ModuleCall.{ModuleCall}
+use Rattle.event_core.specs.RangedScripts.{IsRanged}
+use Rattle.memory_core.specs.Booted.{IsBooted}
+use Rattle.memory_core.specs.Value.{MemoryValue}
+use Rattle.memory_core.proofs.PartsLemmas.{booted}
+use Rattle.guest_boot.specs.declared.world.World.{World}
+use Rattle.guest_steps.specs.Running.{AllStand, AtFirst, IsFresh}
+use Rattle.guest_steps.specs.Seen.{Seen, first_seen}
+use Rattle.guest_steps.specs.Standing.{Stands}
+use Rattle.guest_steps.proofs.BeginningLemmas.{AreProcessors, beginning}
+use Rattle.guest_runs.specs.Beginning.{Begins, BootFor, IsShort}
+use Rattle.guest_runs.specs.OnPorts.{first_on}
+
+-- The processors of a booted world, before the first entry.
+
+pub boot-cpus : (cpus : ℕ) (boot : Boot) → BootFor cpus boot → boot.cpus ≡ cpus
+boot-cpus cpus boot right = right.7.uncalled.same_cpus
+
+boot-booted : (cpus : ℕ) (boot : Boot) → BootFor cpus boot → cpus ≤ 64 → IsBooted boot
+boot-booted cpus boot right few =
+    let same = boot-cpus cpus boot right in
+    booted right.0 right.1 right.2 right.3 right.4 cpus boot right.5 right.6 right.7.uncalled (omega (arith, same, few))
+
+module _ {P : Type 0} (made : P → List ModuleCall) (faults : P → ℕ) (boot : Boot) where
+  first-fresh : (number : ℕ) (scripts : List (List Command)) (ports : List P) → All IsFresh (first_on made faults boot number scripts ports)
+  first-fresh number [] ports = All-nil IsFresh
+  first-fresh number (script ∷ scripts) [] = All-nil IsFresh
+  first-fresh number (script ∷ scripts) (port ∷ ports) = All-cons IsFresh _ (first_on made faults boot (number + 1) scripts ports) refl (first-fresh (number + 1) scripts ports)
+
+  first-at : (number : ℕ) (scripts : List (List Command)) (ports : List P) (k : ℕ) (c : Seen) → All IsShort scripts → slice_get (first_on made faults boot number scripts ports) k ≡ Some c → (c.number ≡ number + k) × (c.boot ≡ boot) × All IsRanged c.script × (length c.script ≤ MAX_COMMANDS)
+  first-at number [] ports k c short at = cc
+  first-at number (script ∷ scripts) [] k c short at = cc
+  first-at number (script ∷ scripts) (port ∷ ports) zero c short at =
+      let has = All-head IsShort script scripts short in
+      let B : Seen → Type 0 = λ c. (c.number ≡ number + 0) × (c.boot ≡ boot) × All IsRanged c.script × (length c.script ≤ MAX_COMMANDS) in
+      let first : Seen = first_seen boot number script (made port) (faults port) in
+      let same : first ≡ c = cc in
+      subst B same ((let n : number ≡ number + 0 = omega arith in n), refl, has.ranged, has.few)
+  first-at number (script ∷ scripts) (port ∷ ports) (suc k) c short at =
+      let rest = first-at (number + 1) scripts ports k c (All-tail IsShort script scripts short) at in
+      let is = rest.0 in
+      (omega (arith, is), rest.1, rest.2, rest.3)
+
+-- what holds of a processor that stands holds of each of those that stand
+all-standing : {T : Type 0} (seen : T → Seen) (stands : T → MemoryValue → Type 0) (all : List T) (memory : MemoryValue) → All (λ c. (m : MemoryValue) → Stands (seen c) m → stands c m) all → ((cpu : ℕ) (c : Seen) → slice_get (map seen all) cpu ≡ Some c → Stands c memory) → All (λ c. stands c memory) all
+all-standing seen stands [] memory each standing = All-nil (λ c. stands c memory)
+all-standing {T} seen stands (c ∷ all) memory each standing =
+    let E : T → Type 0 = λ c. (m : MemoryValue) → Stands (seen c) m → stands c m in
+    All-cons (λ c. stands c memory) c all (All-head E c all each memory (standing 0 (seen c) refl))
+    (all-standing seen stands all memory (All-tail E c all each) (λ cpu d at. standing (suc cpu) d at))
+
+module _ {P T : Type 0} (made : P → List ModuleCall) (faults : P → ℕ) (seen : T → Seen) (stands : T → MemoryValue → Type 0) where
+  pub begin-first : (world : World) (scripts : List (List Command)) (ports : List P) (ps : List P) (all : List T) → Begins made world scripts ports → map seen all ≡ first_on made faults world.boot 0 scripts ps → AtFirst (map seen all) world.memory
+  begin-first world scripts ports ps all begins is = record {
+    fresh = subst (All IsFresh) (sym is) (first-fresh made faults world.boot 0 scripts ps);
+    entries = begins.stands.entries;
+    out = begins.stands.out;
+  }
+
+  pub begin-stand : (world : World) (scripts : List (List Command)) (ports : List P) (ps : List P) (all : List T) → Begins made world scripts ports → map seen all ≡ first_on made faults world.boot 0 scripts ps → length all ≡ length scripts
+      → All (λ c. (m : MemoryValue) → Stands (seen c) m → stands c m) all → AllStand seen stands world.boot all world.memory
+  begin-stand world scripts ports ps all begins is count each =
+      let right = begins.right in
+      let long : length (map seen all) ≡ world.boot.cpus = length-map all seen ∙ count ∙ sym (boot-cpus (length scripts) world.boot right) in
+      let are : AreProcessors world.boot (map seen all) = λ cpu c at.
+      (let found = first-at made faults world.boot 0 scripts ps cpu c begins.short (ap (λ cs. slice_get cs cpu) (sym is) ∙ at) in
+      (found.0 ∙ (let same : 0 + cpu ≡ cpu = omega arith in same), found.1, found.2, found.3))
+      in
+      let together = beginning world.boot (map seen all) world.memory (boot-booted (length scripts) world.boot right begins.few) long begins.stands.same (begin-first world scripts ports ps all begins is) are in
+      record {
+        together = together;
+        each = all-standing seen stands all world.memory each (λ cpu c at. (together.each cpu c at).2);
+      }

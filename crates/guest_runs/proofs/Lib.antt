@@ -1,0 +1,9 @@
+pub mod BeginLemmas
+pub mod FinalLemmas
+pub mod KeepLemmas
+pub mod LaterLemmas
+pub mod OnPortsLemmas
+pub mod PortsLemmas
+pub mod RanLemmas
+pub mod RunLemmas
+pub mod WithinLemmas

@@ -1,0 +1,4 @@
+pub mod Asking
+pub mod Beginning
+pub mod OnPorts
+pub mod Recordings

@@ -1,0 +1,78 @@
+use Rattle.std.specs.Prelude.{ℕ, List, [], ◌∷◌, ◌++◌, Option, None, Some, Result, IfOk, OnOk, ◌≡◌, ◌+◌, length, map, reverse}
+use Rattle.event_core.specs.declared.boot.Boot.{Boot}
+use Rattle.event_core.specs.declared.command.Command.{Command}
+use Rattle.event_core.specs.declared.entry.Entry.{Entry}
+use Rattle.event_core.specs.declared.module_call.ModuleCall.{ModuleCall}
+use Rattle.memory_core.specs.Value.{MemoryValue}
+use Rattle.guest_cpu.specs.declared.cpu.Cpu.{Cpu}
+use Rattle.guest_boot.specs.declared.world.World.{World}
+use Rattle.guest_steps.specs.Running.{AllFinished, EachLater, TurnedBy}
+use Rattle.guest_cpu.specs.Standing.{seen_by}
+use Rattle.guest_steps.specs.Seen.{Seen, first_seen}
+use Rattle.guest_steps.specs.Standing.{Together, lists_of, scripts_of}
+use Rattle.guest_runs.specs.Beginning.{Begins}
+
+-- Processors on ports (own rule).
+
+-- the ports of processors
+abbrev pub ports_of : {P : Type 0} → List (Cpu P) → List P
+ports_of all = map (λ c. c.port) all
+
+-- processors that have made no entry, with numbers from this one on: each with its script, and with
+-- its port's calls and count of faults
+abbrev pub first_on : {P : Type 0} → (P → List ModuleCall) → (P → ℕ) → Boot → ℕ
+    → List (List Command) → List P → List Seen
+first_on made faults boot number [] ports = []
+first_on made faults boot number (script ∷ scripts) [] = []
+first_on made faults boot number (script ∷ scripts) (port ∷ ports) =
+    first_seen boot number script (made port) (faults port)
+    ∷ first_on made faults boot (number + 1) scripts ports
+
+-- A processor ran on a port, which has come back: it has made the processor's calls, all of which
+-- are reported, and its count of faults is the processor's. If it never failed it never fails.
+pub record RanOn {P : Type 0} (made : P → List ModuleCall) (faults : P → ℕ)
+    (NeverFails : P → Type 0) (old : P) (c : Seen) (new : P) : Type 0 where
+  pub made_before : c.made_before ≡ made old
+  pub made_after : c.made ≡ made new
+  pub faults_before : c.faults_before ≡ faults old
+  pub faults_after : c.faults ≡ faults new
+  pub never_fails : NeverFails old → NeverFails new
+  pub reported : c.done ≡ None
+
+-- so did each processor on its port
+abbrev pub EachRan : {P : Type 0} → (P → List ModuleCall) → (P → ℕ) → (P → Type 0)
+    → List P → List Seen → List P → Type 0
+EachRan made faults NeverFails [] [] [] = Unit {0}
+EachRan made faults NeverFails (old ∷ olds) (c ∷ all) (new ∷ news) =
+    RanOn made faults NeverFails old c new × EachRan made faults NeverFails olds all news
+EachRan made faults NeverFails _ _ _ = ⊥
+
+-- Processors of a boot stand before its memory, and all have finished. These are their scripts and
+-- their entries.
+pub record HaveFinished (boot : Boot) (all : List Seen) (memory : MemoryValue)
+    (scripts : List (List Command)) (lists : List (List Entry)) : Type 0 where
+  pub together : Together boot all memory
+  pub finished : AllFinished all
+  pub scripts_are : scripts ≡ scripts_of all
+  pub lists_are : lists ≡ lists_of all
+
+-- Processors ran on the first of these ports, from a booted world and with these scripts, in an
+-- order of turns where there is one. They stand together; and where memory didn't run out all have
+-- finished, before the memory that is left. The other ports are left in reverse order.
+pub record HaveRun {P E : Type 0} (made : P → List ModuleCall) (faults : P → ℕ)
+    (NeverFails : P → Type 0) (world : World) (scripts : List (List Command))
+    (order : Option (List ℕ)) (before left : List P) (all : List (Cpu P))
+    (memory : Result MemoryValue E) : Type 0 where
+  pub begins : Begins made world scripts before
+  pub olds : List (Cpu P)
+  pub before_is : before ≡ ports_of olds ++ reverse left
+  pub first : map (seen_by made faults) olds
+      ≡ first_on made faults world.boot 0 scripts (ports_of olds)
+  pub count : length olds ≡ length scripts
+  pub later : EachLater (seen_by made faults) (λ c. NeverFails c.port) olds all
+  pub stood : MemoryValue
+  pub memory_is : IfOk memory (λ m. m ≡ stood)
+  pub together : Together world.boot (map (seen_by made faults) all) stood
+  pub finished : OnOk memory (AllFinished (map (seen_by made faults) all))
+  pub turned : (turns : List ℕ) → order ≡ Some turns
+      → OnOk memory (TurnedBy world.boot (map (seen_by made faults) all) turns)
