@@ -65,6 +65,14 @@ impl<T: Claim> Accepting<T> {
         }
     }
 
+    /// The claims of all processors, in order of their numbers.
+    pub fn as_slice(&self) -> &[Option<T>]
+        ensures claims { result.now ≡ self.now }
+        ensures places { length self.now ≡ 64 }
+    {
+        self.claims.as_slice()
+    }
+
     /// The units of the first claim, in order of processors, that meets a range.
     pub fn overlaps(&self, range: Units) -> Option<Units>
         ensures some { IfSome result (IsFirstToMeet T.units self.now range) }

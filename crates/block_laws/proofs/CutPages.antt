@@ -31,7 +31,7 @@ use Rattle.block_laws.proofs.PageFacts.{IsPrivate}
 -- ---- ranges with gaps
 
 -- ranges that rise from a page on, with a page between each two
-abbrev Gapped : ℕ → List Pages → Type 0
+abbrev pub Gapped : ℕ → List Pages → Type 0
 Gapped from [] = Unit {0}
 Gapped from (r ∷ rs) = (from ≤ r.first) × Gapped (pages_end r + 1) rs
 
@@ -52,7 +52,7 @@ gapped-joined from r (next ∷ rs) low gapped =
     eq-is : (a b : ℕ) → a ≡ b → (a == b) ≡ true
     eq-is a b same = grind (arith, nat_tests, same)
 
-abbrev FromOn : ℕ → List PageRun → Type 0
+abbrev pub FromOn : ℕ → List PageRun → Type 0
 FromOn from [] = Unit {0}
 FromOn from (run ∷ runs) = from ≤ run.pages.first
 
@@ -60,7 +60,7 @@ next-from : (run : PageRun) (runs : List PageRun) → AllPairs GoesBefore (run �
 next-from run [] pairs = tt
 next-from run (next ∷ runs) pairs = (pairs 0 1 run (omega arith) (omega arith)).ends
 
-ram-gapped : (from : ℕ) (runs : List PageRun) → FromOn from runs → AllPairs GoesBefore runs → Gapped from (ram_ranges runs)
+pub ram-gapped : (from : ℕ) (runs : List PageRun) → FromOn from runs → AllPairs GoesBefore runs → Gapped from (ram_ranges runs)
 ram-gapped from [] low pairs = tt
 ram-gapped from (run ∷ runs) low pairs =
     gapped-joined from run.pages (ram_ranges runs) low (ram-gapped (run_end run) runs (next-from run runs pairs) (pairs-tail GoesBefore run runs pairs))
@@ -79,7 +79,7 @@ gapped-firsts at from [] less gapped = tt
 gapped-firsts at from (r ∷ rs) less gapped = let first = gapped.0 in (omega (arith, less, first), gapped-firsts at (pages_end r + 1) rs (omega (arith, less, first)) gapped.1)
 
 -- no page of the ranges stands right behind one of them, or right before it
-record IsWhole (rs : List Pages) (r : Pages) : Type 0 where
+pub record IsWhole (rs : List Pages) (r : Pages) : Type 0 where
   pub each : (page : ℕ) → list_any (in_pages page) rs ≡ true → (page ≢ pages_end r) × (page + 1 ≢ r.first)
 
 whole-head : (r : Pages) (rs : List Pages) → Gapped (pages_end r + 1) rs → IsWhole (r ∷ rs) r
@@ -103,7 +103,7 @@ whole-tail r all (s ∷ rs) firsts wholes =
       whole-tail r all rs firsts.1 wholes.1,
     )
 
-all-whole : (from : ℕ) (rs : List Pages) → Gapped from rs → AllByRecursion (IsWhole rs) rs
+pub all-whole : (from : ℕ) (rs : List Pages) → Gapped from rs → AllByRecursion (IsWhole rs) rs
 all-whole from [] gapped = tt
 all-whole from (r ∷ rs) gapped =
     (whole-head r rs gapped.1, whole-tail r rs rs (gapped-firsts (pages_end r + 1) (pages_end r + 1) rs (omega arith) gapped.1) (all-whole (pages_end r + 1) rs gapped.1))
@@ -312,7 +312,7 @@ first-private true c some = inl refl
 first-private false true some = inr refl
 first-private false false some = absurd (some refl)
 
-private-by : (map : List Descriptor) (table : Option Bits) (page : ℕ) → first_by map table page ≢ None → IsPrivate (first_by map table page)
+pub private-by : (map : List Descriptor) (table : Option Bits) (page : ℕ) → first_by map table page ≢ None → IsPrivate (first_by map table page)
 private-by map None page some = first-private (unaccepted_page map page) (ram_page map page) some
 private-by map (Some t) page some = first-private (unaccepted_page map page && marks_page t page) (ram_page map page) some
 

@@ -8,7 +8,7 @@ use Rattle.guest_base.specs.declared.memory.Block.{Block}
 use Rattle.guest_base.specs.declared.memory.Units.{Units}
 use Rattle.event_core.specs.declared.boot.Boot.{Boot}
 use Rattle.event_core.specs.Blocks.{block_units}
-use Rattle.event_core.specs.Units.{unit_count, units_between, with_guard, guarded}
+use Rattle.event_core.specs.Units.{unit_count, units_between, with_guard, guarded, guarded_units}
 use Rattle.event_laws.proofs.PlaceLemmas.{UnitFits, unit-some}
 use Rattle.block_laws.specs.Guarded.{PageIn, UnitIn, IsAt}
 
@@ -96,12 +96,13 @@ guarded-holds size base count start len unit page some much at low high below =
               grind (arith, zero, none, from, all))
         ]
 
--- ---- of a block
+-- ---- of a range of pages, and of a block
+
+-- a page of the range, or the page behind it
+pub range-holds : (boot : Boot) (first count unit page : ℕ) → UnitFits boot.unit boot.base → unit < unit_count boot.bits → PageIn boot unit page → 0 < count → first ≤ page → page ≤ first + count → (units : Units) × (guarded_units boot (4096 * first) (4096 * count) ≡ Some units) × UnitIn units unit
+range-holds boot first count unit page fits below inside some low high =
+    guarded-holds boot.unit boot.base (unit_count boot.bits) (4096 * first) (4096 * count) unit page (unit-some boot.unit boot.base fits) (omega (arith, some))
+    (bytes-of boot.unit boot.base unit page fits inside.low inside.high) (omega (arith, low)) (omega (arith, high)) below
 
 pub guard-holds : (boot : Boot) (block : Block) (unit page : ℕ) → UnitFits boot.unit boot.base → unit < unit_count boot.bits → PageIn boot unit page → IsAt block page → (units : Units) × (block_units boot block ≡ Some units) × UnitIn units unit
-guard-holds boot block unit page fits below inside at =
-    let low = at.low in
-    let high = at.high in
-    let some = pow_pos block.order in
-    guarded-holds boot.unit boot.base (unit_count boot.bits) (4096 * block.first) (4096 * 2 ^ block.order) unit page (unit-some boot.unit boot.base fits) (omega (arith, some))
-    (bytes-of boot.unit boot.base unit page fits inside.low inside.high) (omega (arith, low)) (omega (arith, high)) below
+guard-holds boot block unit page fits below inside at = range-holds boot block.first (2 ^ block.order) unit page fits below inside (pow_pos block.order) at.low at.high

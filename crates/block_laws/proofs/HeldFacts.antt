@@ -53,7 +53,7 @@ keeps-private boot page at calls all = all-map (IsPlainCall boot) (KeepsPrivate 
   one call (inr (pool, is, kind, first, count)) = inr (ap (λ f. in_range f call.count page) first ∙ ap (λ n. in_range pool.first n page) count ∙ at.outside pool is)
 
 -- a page of the cut that isn't pending is accepted
-cut-accepted : (boot : Boot) (page : ℕ) (calls : List ModuleCall) → CutPage boot page → AllByRecursion (IsPlainCall boot) calls → is_pending (page_state boot calls page) ≡ false → page_state boot calls page ≡ Some Accepted
+pub cut-accepted : (boot : Boot) (page : ℕ) (calls : List ModuleCall) → CutPage boot page → AllByRecursion (IsPlainCall boot) calls → is_pending (page_state boot calls page) ≡ false → page_state boot calls page ≡ Some Accepted
 cut-accepted boot page calls at all not =
     private-accepted (page_state boot calls page) (private-while (state_in boot.ram) calls page (keeps-private boot page at calls all) at.first) not
 
@@ -67,7 +67,7 @@ loose-clear boot memory block page are all inside none =
       behind = none (page + 1) (record { low = omega (arith, low); high = omega (arith, high) });
     }
 
-loose-stands : (boot : Boot) (memory : List Entry) (block : Block) (at : BlockState) → is_loose at ≡ true → StateStands boot memory block at → NonePending boot (calls_of boot memory) block
+pub loose-stands : (boot : Boot) (memory : List Entry) (block : Block) (at : BlockState) → is_loose at ≡ true → StateStands boot memory block at → NonePending boot (calls_of boot memory) block
 loose-stands boot memory block Waits loose stands = cc
 loose-stands boot memory block (InFlight cpu) loose stands = cc
 loose-stands boot memory block Loose loose stands = stands

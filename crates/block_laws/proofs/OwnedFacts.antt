@@ -33,11 +33,11 @@ use Rattle.block_laws.proofs.CommandFacts.{command-of}
 use Rattle.block_laws.proofs.EventFacts.{IsBlockEvent, is-of-blocks, follows-block}
 use Rattle.block_laws.proofs.HeldFacts.{picked-free}
 use Rattle.block_laws.proofs.HistoryFacts.{memory_of, memory-grows, memory-same, own-grows, own-same}
-use Rattle.block_laws.proofs.RowFacts.{follows-row}
+use Rattle.block_laws.proofs.RowFacts.{RowsHave, follows-row}
 
 -- ---- blocks that are apart
 
-apart-swap : (a b : Block) → AreApart a b → AreApart b a
+pub apart-swap : (a b : Block) → AreApart a b → AreApart b a
 apart-swap a b apart page inside =
     elim (cases_Bool (in_block page a)) [
       | inr f ↦ f
@@ -55,7 +55,7 @@ EachApart (b ∷ bs) = ApartFrom b bs × EachApart bs
 abbrev IsOwned : List Entry → Block → Type 0
 IsOwned memory block = (page : ℕ) → in_block page block ≡ true → is_owned memory page ≡ true
 
-abbrev blocks_in : List Holding → List Block
+abbrev pub blocks_in : List Holding → List Block
 blocks_in held = map (λ (h : Holding). h.block) held
 
 -- What stands of the blocks that processors have, each with a list of its own.
@@ -77,7 +77,7 @@ unowned-apart memory block (b ∷ bs) none all = (
 
 -- ---- free by name
 
-abbrev left : List ℕ → List Holding → List Holding
+abbrev pub left : List ℕ → List Holding → List Holding
 left name held = filter (λ (h : Holding). not (bytes_eq h.name name)) held
 
 left-all : (P : Block → Type 0) (name : List ℕ) (held : List Holding) → AllByRecursion P (blocks_in held) → AllByRecursion P (blocks_in (left name held))
@@ -146,13 +146,33 @@ names-apart name of (g ∷ held) h k differ each first second =
 
 -- ---- what an event changes
 
+-- an event that gets and frees nothing
+abbrev pub IsQuiet : Event → Type 0
+IsQuiet event.Own = Unit {0}
+IsQuiet (event.Claim block units run) = Unit {0}
+IsQuiet (event.Report run calls stopped next) = Unit {0}
+IsQuiet event.NoBlock = Unit {0}
+IsQuiet (event.Asked found) = Unit {0}
+IsQuiet (event.Touched page found) = Unit {0}
+IsQuiet _ = ⊥
+
+-- it changes no owner
+quiet-owned : (e : Event) → IsQuiet e → (page : ℕ) (owned : Bool) → owned_after page owned e ≡ owned
+quiet-owned event.Own is page owned = refl
+quiet-owned (event.Claim block units run) is page owned = refl
+quiet-owned (event.Report run calls stopped next) is page owned = refl
+quiet-owned event.NoBlock is page owned = refl
+quiet-owned (event.Asked found) is page owned = refl
+quiet-owned (event.Touched at found) is page owned = refl
+quiet-owned _ is page owned = absurd is
+
 -- the blocks of a processor before and after an event of its own
-data Change (memory : List Entry) (before after : List Block) (e : Event) : Type 0 where
-  Same : before ≡ after → ((page : ℕ) (owned : Bool) → owned_after page owned e ≡ owned) → Change memory before after e
+pub data Change (memory : List Entry) (before after : List Block) (e : Event) : Type 0 where
+  Same : before ≡ after → IsQuiet e → Change memory before after e
   Gets : (block : Block) → e ≡ event.Got block → after ≡ block ∷ before → ((page : ℕ) → in_block page block ≡ true → is_owned memory page ≡ false) → Change memory before after e
   Frees : (held : List Holding) (name : List ℕ) (h : Holding) → e ≡ event.Freed h.block → before ≡ blocks_in held → after ≡ blocks_in (left name held) → find (λ (g : Holding). bytes_eq g.name name) held ≡ Some h → Change memory before after e
 
-is_owned-push : (memory : List Entry) (entry : Entry) (page : ℕ) → is_owned (memory ++ entry ∷ []) page ≡ owned_after page (is_owned memory page) entry.event
+pub is_owned-push : (memory : List Entry) (entry : Entry) (page : ℕ) → is_owned (memory ++ entry ∷ []) page ≡ owned_after page (is_owned memory page) entry.event
 unfolding is_owned
 is_owned-push memory entry page = fold-append (λ owned (e : Entry). owned_after page owned e.event) false memory (entry ∷ [])
 
@@ -246,12 +266,12 @@ module _ (memory : List Entry) (entry : Entry) (blocks : ℕ → List Block) (cp
             (λ not. stands.others c d differ));
       }
 
-  push-same : (after : List Block) → blocks cpu ≡ after → ((page : ℕ) (owned : Bool) → owned_after page owned entry.event ≡ owned) → OwnersStand (memory ++ entry ∷ []) (with_list blocks cpu after)
+  push-same : (after : List Block) → blocks cpu ≡ after → IsQuiet entry.event → OwnersStand (memory ++ entry ∷ []) (with_list blocks cpu after)
   push-same after begun quiet =
       let all : blocks ≡ with_list blocks cpu after = fun_ext (λ c. at-list (λ bs. blocks c ≡ bs) blocks cpu after c (λ same. ap blocks (sym same) ∙ begun) (λ differ. refl)) in
       subst (OwnersStand (memory ++ entry ∷ [])) all
       (record {
-        owned = λ c. still-owned memory entry (blocks c) (λ page owned. is_owned-push memory entry page ∙ quiet page (is_owned memory page) ∙ owned) (stands.owned c);
+        owned = λ c. still-owned memory entry (blocks c) (λ page owned. is_owned-push memory entry page ∙ quiet-owned entry.event quiet page (is_owned memory page) ∙ owned) (stands.owned c);
         own = stands.own;
         others = stands.others;
       })
@@ -264,12 +284,12 @@ module _ (memory : List Entry) (entry : Entry) (blocks : ℕ → List Block) (cp
 -- ---- the change that a command makes
 
 -- a processor gets a picked block by an allocation, and frees a block that it has by its name
-abbrev OwnFits : Boot → List Entry → Own → Command → Event → Type 0
+abbrev pub OwnFits : Boot → List Entry → Own → Command → Event → Type 0
 OwnFits boot memory own c (event.Got block) = (name : List ℕ) × (order : ℕ) × (c ≡ command.Alloc name order) × (pick (free_page boot memory) order ≡ Some block)
 OwnFits boot memory own c (event.Freed block) = (name : List ℕ) × (h : Holding) × (c ≡ command.Free name) × (block_named own name ≡ Some h) × (h.block ≡ block)
 OwnFits boot memory own c _ = Unit {0}
 
-free-unowned : (boot : Boot) (memory : List Entry) (page : ℕ) → free_page boot memory page ≡ true → is_owned memory page ≡ false
+pub free-unowned : (boot : Boot) (memory : List Entry) (page : ℕ) → free_page boot memory page ≡ true → is_owned memory page ≡ false
 unfolding free_page
 free-unowned boot memory page free = by_block (find (in_block page) (cut boot)) free where
   not-true : (b : Bool) → not b ≡ true → b ≡ false
@@ -279,18 +299,6 @@ free-unowned boot memory page free = by_block (find (in_block page) (cut boot)) 
   by_block : (found : Option Block) → elim found as (λ _. Bool) [ None ↦ false | Some block ↦ is_loose (block_state boot memory block) && not (is_owned memory page) ] ≡ true → is_owned memory page ≡ false
   by_block None is = cc
   by_block (Some block) is = not-true (is_owned memory page) (and_parts (is_loose (block_state boot memory block)) (not (is_owned memory page)) is).1
-
--- an event that gets and frees nothing changes no owner
-quiet-owned : (e : Event) → IsBlockEvent e → ((block : Block) → e ≡ event.Got block → ⊥) → ((block : Block) → e ≡ event.Freed block → ⊥) → (page : ℕ) (owned : Bool) → owned_after page owned e ≡ owned
-quiet-owned (event.Got block) is got freed page owned = absurd (got block refl)
-quiet-owned (event.Freed block) is got freed page owned = absurd (freed block refl)
-quiet-owned event.Own is got freed page owned = refl
-quiet-owned (event.Claim block units run) is got freed page owned = refl
-quiet-owned (event.Report run calls stopped next) is got freed page owned = refl
-quiet-owned event.NoBlock is got freed page owned = refl
-quiet-owned (event.Asked found) is got freed page owned = refl
-quiet-owned (event.Touched at found) is got freed page owned = refl
-quiet-owned _ is got freed page owned = absurd is
 
 write-blocks : (block : Block) (at : ℕ) (more : List ℕ) (held : List Holding) → blocks_in held ≡ blocks_in (map (write_if block at more) held)
 write-blocks block at more [] = refl
@@ -315,22 +323,29 @@ ended-blocks (Some r) own = refl
 
 module _ (boot : Boot) (memory : List Entry) (own : Own) where
   -- a command that neither allocates nor frees
+  quiet-other : (c : Command) (e : Event) → ((name : List ℕ) (order : ℕ) → c ≡ command.Alloc name order → ⊥) → ((name : List ℕ) → c ≡ command.Free name → ⊥) → IsBlockEvent e → OwnFits boot memory own c e → IsQuiet e
+  quiet-other c (event.Got block) alloc free is fits = absurd (alloc fits.0 fits.1 fits.2)
+  quiet-other c (event.Freed block) alloc free is fits = absurd (free fits.0 fits.2)
+  quiet-other c event.Own alloc free is fits = tt
+  quiet-other c (event.Claim block units run) alloc free is fits = tt
+  quiet-other c (event.Report run calls stopped next) alloc free is fits = tt
+  quiet-other c event.NoBlock alloc free is fits = tt
+  quiet-other c (event.Asked found) alloc free is fits = tt
+  quiet-other c (event.Touched at found) alloc free is fits = tt
+  quiet-other c _ alloc free is fits = absurd is
+
   other-change : (c : Command) (e : Event) (after : List Block) → ((name : List ℕ) (order : ℕ) → c ≡ command.Alloc name order → ⊥) → ((name : List ℕ) → c ≡ command.Free name → ⊥) → IsBlockEvent e → OwnFits boot memory own c e → blocks_in own.blocks ≡ after → Change memory (blocks_in own.blocks) after e
-  other-change c e after alloc free is fits same =
-      Same same
-      (quiet-owned e is
-      (λ block at. let f = subst (OwnFits boot memory own c) at fits in alloc f.0 f.1 f.2)
-      (λ block at. let f = subst (OwnFits boot memory own c) at fits in free f.0 f.2))
+  other-change c e after alloc free is fits same = Same same (quiet-other c e alloc free is fits)
 
   alloc-change : (name : List ℕ) (order : ℕ) (e : Event) → IsBlockEvent e → OwnFits boot memory own (command.Alloc name order) e → Change memory (blocks_in own.blocks) (blocks_in (after_alloc name e own).blocks) e
   alloc-change name order (event.Got block) is fits = Gets block refl refl (λ page inside. free-unowned boot memory page (picked-free (free_page boot memory) fits.1 block fits.3 page inside))
   alloc-change name order (event.Freed block) is fits = let no = fits.2 in cc
-  alloc-change name order event.Own is fits = Same refl (λ page owned. refl)
-  alloc-change name order (event.Claim block units run) is fits = Same refl (λ page owned. refl)
-  alloc-change name order (event.Report run calls stopped next) is fits = Same refl (λ page owned. refl)
-  alloc-change name order event.NoBlock is fits = Same refl (λ page owned. refl)
-  alloc-change name order (event.Asked found) is fits = Same refl (λ page owned. refl)
-  alloc-change name order (event.Touched at found) is fits = Same refl (λ page owned. refl)
+  alloc-change name order event.Own is fits = Same refl tt
+  alloc-change name order (event.Claim block units run) is fits = Same refl tt
+  alloc-change name order (event.Report run calls stopped next) is fits = Same refl tt
+  alloc-change name order event.NoBlock is fits = Same refl tt
+  alloc-change name order (event.Asked found) is fits = Same refl tt
+  alloc-change name order (event.Touched at found) is fits = Same refl tt
   alloc-change name order _ is fits = absurd is
 
   free-change : (name : List ℕ) (e : Event) → IsBlockEvent e → OwnFits boot memory own (command.Free name) e → Change memory (blocks_in own.blocks) (blocks_in (after_free name e own).blocks) e
@@ -341,12 +356,12 @@ module _ (boot : Boot) (memory : List Entry) (own : Own) where
       free-name : (a b : List ℕ) → command.Free a ≡ command.Free b → a ≡ b
       free-name a b h = cc
   free-change name (event.Got block) is fits = let no = fits.2 in cc
-  free-change name event.Own is fits = Same refl (λ page owned. refl)
-  free-change name (event.Claim block units run) is fits = Same refl (λ page owned. refl)
-  free-change name (event.Report run calls stopped next) is fits = Same refl (λ page owned. refl)
-  free-change name event.NoBlock is fits = Same refl (λ page owned. refl)
-  free-change name (event.Asked found) is fits = Same refl (λ page owned. refl)
-  free-change name (event.Touched at found) is fits = Same refl (λ page owned. refl)
+  free-change name event.Own is fits = Same refl tt
+  free-change name (event.Claim block units run) is fits = Same refl tt
+  free-change name (event.Report run calls stopped next) is fits = Same refl tt
+  free-change name event.NoBlock is fits = Same refl tt
+  free-change name (event.Asked found) is fits = Same refl tt
+  free-change name (event.Touched at found) is fits = Same refl tt
   free-change name _ is fits = absurd is
 
   told-change : (c : Command) (m : Moved) → IsOfBlocks c → IsBlockEvent m.entry.event → OwnFits boot memory own c m.entry.event → Change memory (blocks_in own.blocks) (blocks_in (told (Some c) m own).blocks) m.entry.event
@@ -360,7 +375,7 @@ module _ (boot : Boot) (memory : List Entry) (own : Own) where
   told-change (command.Load name off) m is at fits = other-change (command.Load name off) m.entry.event (blocks_in own.blocks) (λ n o no. cc) (λ n no. cc) at fits refl
   told-change _ m is at fits = absurd is
 
-  step-change : (script : List Command) (c : Command) (m : Moved) → slice_get script m.entry.cmd ≡ Some c → IsOfBlocks c → IsBlockEvent m.entry.event → OwnFits boot memory own c m.entry.event → Change memory (blocks_in own.blocks) (blocks_in (own_step script own m).blocks) m.entry.event
+  pub step-change : (script : List Command) (c : Command) (m : Moved) → slice_get script m.entry.cmd ≡ Some c → IsOfBlocks c → IsBlockEvent m.entry.event → OwnFits boot memory own c m.entry.event → Change memory (blocks_in own.blocks) (blocks_in (own_step script own m).blocks) m.entry.event
   step-change script c m its is at fits =
       let now : blocks_in (own_step script own m).blocks ≡ blocks_in (told (Some c) m own).blocks =
       ap blocks_in (ended-blocks m.entry.reply (told (slice_get script m.entry.cmd) m own)) ∙ ap (λ o. blocks_in (told o m own).blocks) its
@@ -369,12 +384,25 @@ module _ (boot : Boot) (memory : List Entry) (own : Own) where
 
 -- ---- histories
 
+-- the rows' events are such
+pub own-rows : (boot : Boot) (memory : List Entry) (cpu : ℕ) (own : Own) (c : Command) → RowsHave (OwnFits boot memory own c) boot memory cpu own c
+own-rows boot memory cpu own c = record {
+  quiet = tt;
+  asked = λ found. tt;
+  claimed = λ block units none lowest. tt;
+  reported = λ claim calls is. tt;
+  got = λ name order block its is. (name, order, its, is);
+  none = tt;
+  freed = λ name h its has. (name, h, its, has, refl);
+  touched = λ page found at. tt;
+}
+
 -- the blocks that each processor has after a history
 abbrev blocks_of : List (List Command) → List Moved → ℕ → List Block
 blocks_of scripts history cpu = blocks_in (own_after scripts history cpu).blocks
 
 -- an event that isn't the memory's is the processor's own
-own-event : (boot : Boot) (e : Event) → IsBlockEvent e → same_place place.Memory (place_of boot e) ≡ false → e ≡ event.Own
+pub own-event : (boot : Boot) (e : Event) → IsBlockEvent e → same_place place.Memory (place_of boot e) ≡ false → e ≡ event.Own
 own-event boot event.Own is out = refl
 own-event boot (event.Claim block units run) is out = cc
 own-event boot (event.Report run calls stopped next) is out = cc
@@ -406,17 +434,9 @@ module _ (boot : Boot) (scripts : List (List Command)) (all : BlockScripts scrip
 
     own-fits : OwnFits boot (entries_of (at_place entry.place history)) (own_after scripts history entry.cpu.0) (command-of boot scripts history entry f).command entry.event
     own-fits =
-        follows-row (OwnFits boot (entries_of (at_place entry.place history)) (own_after scripts history entry.cpu.0) (command-of boot scripts history entry f).command) boot scripts history entry all f
-        (record {
-          quiet = tt;
-          asked = λ found. tt;
-          claimed = λ block units none lowest. tt;
-          reported = λ claim calls is. tt;
-          got = λ name order block its is. (name, order, its, is);
-          none = tt;
-          freed = λ name h its has. (name, h, its, has, refl);
-          touched = λ page found at. tt;
-        })
+        let own = own_after scripts history entry.cpu.0 in
+        let c = (command-of boot scripts history entry f).command in
+        follows-row (OwnFits boot (entries_of (at_place entry.place history)) own c) boot scripts history entry all f (own-rows boot (entries_of (at_place entry.place history)) entry.cpu.0 own c)
 
     change : (memory : List Entry) → OwnFits boot memory (own_after scripts history entry.cpu.0) (command-of boot scripts history entry f).command entry.event
         → Change memory (blocks_of scripts history entry.cpu.0) (blocks_in (own_step (script_of scripts entry.cpu.0) (own_after scripts history entry.cpu.0) (with_bytes boot scripts history entry)).blocks) entry.event

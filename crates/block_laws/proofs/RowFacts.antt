@@ -25,13 +25,13 @@ use Rattle.event_core.specs.Holdings.{Holding, Own, block_named}
 use Rattle.event_core.specs.Legal.{Follows, at_place}
 use Rattle.event_core.specs.MemoryRows.{claim_event, run_of_claim, next_run}
 use Rattle.event_core.specs.Moved.{Moved, entries_of, made_by}
-use Rattle.event_core.specs.Next.{Step, unrefused_step, refused_or, replied_by, accept_step, alloc_step, alloc_reply, claim_reply, load_step, stray_step}
+use Rattle.event_core.specs.Next.{Step, step_of, unrefused_step, refused_or, replied_by, accept_step, alloc_step, alloc_reply, claim_reply, load_step, stray_step}
 use Rattle.event_core.specs.Own.{own_of, script_of}
 use Rattle.event_core.specs.OwnRows.{is_inside, strayed_bytes, page_behind, found_at}
 use Rattle.event_core.specs.Refusals.{refusal_of}
 use Rattle.event_core.specs.Units.{guarded_units}
 use Rattle.block_laws.specs.BlockScripts.{IsOfBlocks, BlockScripts}
-use Rattle.block_laws.proofs.CommandFacts.{some-same, command-of}
+use Rattle.block_laws.proofs.CommandFacts.{some-same, command-of, step_told}
 use Rattle.block_laws.proofs.EventFacts.{is-of-blocks}
 
 -- what holds of a step's event
@@ -116,12 +116,15 @@ module _ (P : Event → Type 0) where
   unrefused-row boot cpu own there (command.Load name off) calls is rows = held-step _ (block_named own name) (λ h has. load-row boot (entries_of there) cpu own (command.Load name off) rows h off)
   unrefused-row boot cpu own there _ calls is rows = absurd is
 
+-- what holds of each row's event holds of a step's
+pub step-row : (P : Event → Type 0) (boot : Boot) (cpu : ℕ) (own : Own) (there : List Moved) (c : Command) (calls : List ModuleCall) (step : Step) → IsOfBlocks c → RowsHave P boot (entries_of there) cpu own c → step_of boot cpu own there c calls ≡ Some step → P step.event
+step-row P boot cpu own there c calls step is rows made =
+    (subst (StepHas P) made (refused-step P (refusal_of boot own c) (unrefused_step boot cpu own there c calls) rows.quiet (unrefused-row P boot cpu own there c calls is rows))).each
+
 -- what holds of each row's event holds of the event that follows
 pub follows-row : (P : Event → Type 0) (boot : Boot) (scripts : List (List Command)) (history : List Moved) (entry : Entry) → BlockScripts scripts → (f : Follows boot scripts history entry)
     → RowsHave P boot (entries_of (at_place entry.place history)) entry.cpu.0 (own_of (script_of scripts entry.cpu.0) (made_by entry.cpu.0 history)) (command-of boot scripts history entry f).command → P entry.event
 follows-row P boot scripts history entry all f rows =
     let c = command-of boot scripts history entry f in
-    let own = own_of (script_of scripts entry.cpu.0) (made_by entry.cpu.0 history) in
-    (subst (StepHas P) c.step
-    (refused-step P (refusal_of boot own c.command) _ rows.quiet
-    (unrefused-row P boot entry.cpu.0 own (at_place entry.place history) c.command (calls_in entry.event) (is-of-blocks scripts entry.cpu.0 entry.cmd c.command all c.its) rows))).each
+    step-row P boot entry.cpu.0 (own_of (script_of scripts entry.cpu.0) (made_by entry.cpu.0 history)) (at_place entry.place history) c.command (calls_in entry.event) (step_told entry)
+    (is-of-blocks scripts entry.cpu.0 entry.cmd c.command all c.its) rows c.step

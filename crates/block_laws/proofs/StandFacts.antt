@@ -107,7 +107,7 @@ bit-before boot before rest unit page all at h =
     ∙ any_such_is (is_marked (bit_of boot.bits unit) before) (unit_first boot unit) (unit_pages boot) page at.inside.low at.inside.high marked
 
 -- a page lies in one unit
-one-unit : (boot : Boot) (unit other page : ℕ) → PageIn boot unit page → PageIn boot other page → unit ≡ other
+pub one-unit : (boot : Boot) (unit other page : ℕ) → PageIn boot unit page → PageIn boot other page → unit ≡ other
 one-unit boot unit other page a b =
     sym (unit-of (boot.base / 4096) (boot.unit / 4096) unit page a.low a.high) ∙ unit-of (boot.base / 4096) (boot.unit / 4096) other page b.low b.high
 
@@ -181,7 +181,7 @@ record Before (boot : Boot) (memory : List Entry) (cpu : ℕ) (e : Event) (now :
   pub steps : CallsFit boot memory e
   pub pushed : Pushed boot memory cpu e now
 
-same-block : (a b : Block) → same_block a b ≡ true → a ≡ b
+pub same-block : (a b : Block) → same_block a b ≡ true → a ≡ b
 same-block a b is =
     let two = and_parts (a.first == b.first) (a.order == b.order) is in
     let first : a.first ≡ b.first = eqb-true a.first b.first two.0 in
@@ -366,7 +366,7 @@ state-keeps boot memory now cpu (event.Asked found) block at before stands = qui
 state-keeps boot memory now cpu (event.Touched page found) block at before stands = quiet-block boot memory now cpu (event.Touched page found) block at before.pushed refl (λ c. refl) stands
 state-keeps boot memory now cpu _ block at before stands = absurd before.fits
 
-block_state-push : (boot : Boot) (memory : List Entry) (entry : Entry) (block : Block) → block_state boot (memory ++ entry ∷ []) block ≡ block_step block entry.cpu.0 (block_state boot memory block) entry.event
+pub block_state-push : (boot : Boot) (memory : List Entry) (entry : Entry) (block : Block) → block_state boot (memory ++ entry ∷ []) block ≡ block_step block entry.cpu.0 (block_state boot memory block) entry.event
 unfolding block_state
 block_state-push boot memory entry block = fold-append (λ at (e : Entry). block_step block e.cpu.0 at e.event) (cond (waits_at_boot boot block) Waits Loose) memory (entry ∷ [])
 
@@ -510,7 +510,7 @@ first-state boot block loose = by_waits (waits_at_boot boot block) refl where
   by_waits true is = tt
   by_waits false is = λ page at. ap (λ cs. is_pending (page_state boot cs page)) (append-nil boot.calls) ∙ loose is page at
 
-no-claim : (boot : Boot) (cpu : ℕ) → claim_of boot [] cpu ≡ None
+pub no-claim : (boot : Boot) (cpu : ℕ) → claim_of boot [] cpu ≡ None
 unfolding claim_of
 no-claim boot cpu = refl
 

@@ -1,3 +1,4 @@
 pub mod Apart
 pub mod BlockScripts
 pub mod Guarded
+pub mod Runnable
