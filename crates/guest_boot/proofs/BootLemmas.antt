@@ -1,4 +1,4 @@
-use Rattle.std.proofs.Common.{◌≡◌, ℕ, ◌≤◌, Option, None, Some, List, [], ◌++◌, refl, sym, ◌∙◌, ap, subst, inr, arith}
+use Rattle.std.proofs.Common.{◌≡◌, ℕ, ◌≤◌, Option, None, Some, List, [], ◌++◌, sym, ◌∙◌, ap, subst, inr, arith}
 use Rattle.std.specs.Prelude.{All, Result, Err}
 use Rattle.guest_base.specs.declared.memory.Page.{Page}
 use Rattle.guest_base.specs.declared.memory.Pages.{Pages}
@@ -50,12 +50,6 @@ same-pool : (boot : Boot) (calls : List ModuleCall) (pool : Option Pages) → Po
 same-pool boot calls None placed = placed
 same-pool boot calls (Some pool) placed = (placed.0, record { pages = placed.1.pages; room = placed.1.room; lowest = placed.1.lowest })
 
--- the same of what the boot itself says
-own-plain : {descriptors : List Descriptor} {hosts : List HostRun} {table : Option Bits} {areas cpus : ℕ} {ram : List PageRun} {bits : Option Bits} {pieces : List PageRun} {boot : Boot} → Begins descriptors hosts table areas cpus ram bits pieces boot → Uncalled descriptors boot.hosts table 0 boot.areas boot.cpus boot
-own-plain b =
-    let plain = begins-plain b in
-    record { ram = plain.ram; same_hosts = refl; unit = plain.unit; base = plain.base; bitmap = plain.bitmap; bits = plain.bits; same_cpus = refl; same_areas = refl; raised = plain.raised; pool = plain.pool }
-
 -- the calls of all stages are boot's
 begins-calls : {descriptors : List Descriptor} {hosts : List HostRun} {table : Option Bits} {areas cpus : ℕ} {ram : List PageRun} {bits : Option Bits} {pieces : List PageRun} {boot : Boot} (made : List ModuleCall) (stop : Option Page) → Begins descriptors hosts table areas cpus ram bits pieces boot → Went boot pieces made stop → BootCalls descriptors table boot made stop
 begins-calls {pieces} {boot} made stop b went =
@@ -88,13 +82,6 @@ called descriptors hosts table slots areas cpus boot calls made plain went same 
 -- the boot of the map
 pub begins-right : {descriptors : List Descriptor} {hosts : List HostRun} {table : Option Bits} {areas cpus : ℕ} {ram : List PageRun} {bits : Option Bits} {pieces : List PageRun} {boot : Boot} (calls made : List ModuleCall) → Begins descriptors hosts table areas cpus ram bits pieces boot → calls ≡ made → Went boot pieces made None → BootRight descriptors hosts table 0 areas cpus (with_calls boot calls)
 begins-right {descriptors} {hosts} {table} {areas} {cpus} {ram} {bits} {pieces} {boot} calls made b same went = called descriptors hosts table 0 areas cpus boot calls made (begins-plain b) (begins-calls made None b went) same
-
--- the boot of the map, with what it was asked for by its own fields
-pub begins-own : {descriptors : List Descriptor} {hosts : List HostRun} {table : Option Bits} {areas cpus : ℕ} {ram : List PageRun} {bits : Option Bits} {pieces : List PageRun} {boot : Boot} (calls made : List ModuleCall) → Begins descriptors hosts table areas cpus ram bits pieces boot → calls ≡ made → Went boot pieces made None → BootRight descriptors boot.hosts table 0 boot.areas boot.cpus (with_calls boot calls)
-begins-own {descriptors} {hosts} {table} {areas} {cpus} {ram} {bits} {pieces} {boot} calls made b same went = called descriptors boot.hosts table 0 boot.areas boot.cpus boot calls made (own-plain b) (begins-calls made None b went) same
-
-pub begins-rules : {descriptors : List Descriptor} {hosts : List HostRun} {table : Option Bits} {areas cpus : ℕ} {ram : List PageRun} {bits : Option Bits} {pieces : List PageRun} {boot : Boot} → Begins descriptors hosts table areas cpus ram bits pieces boot → MapRules descriptors boot.hosts
-begins-rules {descriptors} b = subst (λ hs. MapRules descriptors hs) (sym b.first.same_hosts) b.rules
 
 -- a boot that has made some calls
 begins-front : {descriptors : List Descriptor} {hosts : List HostRun} {table : Option Bits} {areas cpus : ℕ} {ram : List PageRun} {bits : Option Bits} {pieces : List PageRun} {boot : Boot} (made : List ModuleCall) → Begins descriptors hosts table areas cpus ram bits pieces boot → IsFront (Went boot pieces) made → BootFront descriptors hosts table 0 areas cpus made

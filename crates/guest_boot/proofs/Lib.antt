@@ -7,3 +7,5 @@ pub mod EarlyLemmas
 pub mod StartLemmas
 pub mod StageLemmas
 pub mod BootLemmas
+pub mod PutLemmas
+pub mod StoreLemmas

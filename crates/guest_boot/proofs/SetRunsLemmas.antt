@@ -1,6 +1,10 @@
-use Rattle.std.proofs.Common.{◌≡◌, ℕ, zero, suc, ◌+◌, ◌-◌, ◌<◌, ◌≤◌, Bool, true, false, Option, None, Some, List, [], ◌∷◌, refl, sym, ◌∙◌, ap, subst, arith}
+use Rattle.std.proofs.Common.{◌≡◌, ℕ, zero, suc, ◌+◌, ◌-◌, ◌*◌, ◌^◌, ◌<◌, ◌≤◌, Bool, true, false, ◌&&◌, Option, None, Some, List, [], ◌∷◌, refl, sym, ◌∙◌, ap, subst, arith, eq-eqb}
+use Rattle.std.specs.Option.{option_map_or}
 use mathlib.Core.Path.{fun_ext}
 use Rattle.guest_base.specs.Ranges.{in_range}
+use Rattle.guest_base.specs.Search.{any_such}
+use Rattle.guest_base.specs.declared.limits.TheConstants.{PAGE_BYTES}
+use Rattle.guest_base.specs.declared.memory.Block.{Block}
 use Rattle.guest_base.proofs.SearchLemmas.{first_such_end}
 use Rattle.guest_base.proofs.RangeLemmas.{in_range-elim, in_range-past}
 use Rattle.guest_base.specs.declared.memory.Units.{Units}
@@ -8,11 +12,14 @@ use Rattle.event_core.specs.declared.boot.Boot.{Boot}
 use Rattle.event_core.specs.declared.module_call.ModuleCall.{ModuleCall}
 use Rattle.event_core.specs.Boot.{runs_from, set_runs}
 use Rattle.event_core.specs.Units.{bit_after, first_run, run_at, units_end, guarded_units}
-use Rattle.memory_core.specs.Bitmaps.{bits_in, guarded_by, BitsAfter}
+use Rattle.event_core.specs.Blocks.{block_units}
+use Rattle.event_laws.specs.Coming.{waits_after}
+use Rattle.memory_core.specs.Bitmaps.{bits_in, guarded_by, any_in, BitsAfter}
 use Rattle.memory_core.proofs.BitsLemmas.{guarded-same}
 use Rattle.memory_core.proofs.UnitsLemmas.{IsRunIn, first_run-facts}
 use Rattle.event_core.specs.Table.{Bits}
 use Rattle.guest_boot.specs.Booting.{runs_in}
+use Rattle.guest_boot.specs.Putting.{waits_then}
 
 -- The runs of set bits among units.
 
@@ -123,3 +130,17 @@ runs-are boot done bits start len after =
     the-runs : (units : Option Units) → runs_in (bit_after boot done) units ≡ set_runs boot done units
     the-runs None = refl
     the-runs (Some units) = refl
+
+-- ---- whether a bit is set
+
+-- a guarded unit of a block has a set bit in the kept bitmap exactly if it has one after the calls
+pub waits-by : (boot : Boot) (done : List ModuleCall) (bits : Option Bits) (block : Block) → BitsAfter boot done bits → block.order ≡ 10 → any_in (bits_in bits) (guarded_by bits (PAGE_BYTES * block.first) (PAGE_BYTES * 2 ^ block.order)) ≡ waits_then boot done block
+waits-by boot done bits block after ten =
+    ap (any_in (bits_in bits)) (guarded-same boot bits (PAGE_BYTES * block.first) (PAGE_BYTES * 2 ^ block.order) after.same)
+    ∙ ap (λ (t : ℕ → Bool). any_in t (block_units boot block)) (fun_ext after.set)
+    ∙ the-units (block_units boot block)
+    ∙ sym (ap (λ b. b && waits_after boot done block) (eq-eqb block.order 10 ten))
+  where
+    the-units : (units : Option Units) → any_in (bit_after boot done) units ≡ option_map_or (λ (u : Units). any_such (bit_after boot done) u.first u.count) units false
+    the-units None = refl
+    the-units (Some units) = refl

@@ -22,7 +22,7 @@ use Rattle.guest_boot.proofs.InTurnLemmas.{ended-on, turn-append, turn-before, t
 -- The stages of boot, one behind the other.
 
 -- the pieces as they are kept
-early-turn : (boot : Boot) (done : List ModuleCall) (runs : List PageRun) (calls : List ModuleCall) (stop : Option Page) → InTurn (AcceptsRunPiece boot) done runs calls stop → InTurn (StagePart boot) done (map (λ (run : PageRun). Early run.pages) runs) calls stop
+pub early-turn : (boot : Boot) (done : List ModuleCall) (runs : List PageRun) (calls : List ModuleCall) (stop : Option Page) → InTurn (AcceptsRunPiece boot) done runs calls stop → InTurn (StagePart boot) done (map (λ (run : PageRun). Early run.pages) runs) calls stop
 early-turn boot done runs calls stop turn = turn-map (StagePart boot) (λ (run : PageRun). Early run.pages) done runs calls stop turn
 
 -- boot ends at an early piece
@@ -49,7 +49,7 @@ blocks-behind r boot done mid made runs blocks is (now, grew, turn) (later, grow
 
 -- ---- the stages as they are kept are boot's
 
-kept-pieces : (pieces : List Pages) → map (λ (run : PageRun). Early run.pages) (map pending_run pieces) ≡ map Early pieces
+pub kept-pieces : (pieces : List Pages) → map (λ (run : PageRun). Early run.pages) (map pending_run pieces) ≡ map Early pieces
 kept-pieces [] = refl
 kept-pieces (pages ∷ pieces) = ap (λ stages. Early pages ∷ stages) (kept-pieces pieces)
 
@@ -72,14 +72,14 @@ pub bits-same : (boot : Boot) (calls done : List ModuleCall) (bits : Option Bits
 bits-same boot calls done None after = record { same = after.same; set = λ unit. after.set unit ∙ bit-same boot calls done unit }
 bits-same boot calls done (Some b) after = record { same = after.same; set = λ unit. after.set unit ∙ bit-same boot calls done unit }
 
-part-same : (boot : Boot) (calls before : List ModuleCall) (stage : Stage) (now : List ModuleCall) (stop : Option Page) → StagePart boot before stage now stop → StagePart (with_calls boot calls) before stage now stop
+pub part-same : (boot : Boot) (calls before : List ModuleCall) (stage : Stage) (now : List ModuleCall) (stop : Option Page) → StagePart boot before stage now stop → StagePart (with_calls boot calls) before stage now stop
 unfolding bit_after pending_in
 part-same boot calls before (Early pages) now stop part = part
 part-same boot calls before (PoolAccepted pages) now stop part = part
 part-same boot calls before (PoolShared pages) now stop part = part
 part-same boot calls before (BlockAccepted block) now stop part = part
 
-cut-same : (boot : Boot) (calls : List ModuleCall) → cut boot ≡ cut (with_calls boot calls)
+pub cut-same : (boot : Boot) (calls : List ModuleCall) → cut boot ≡ cut (with_calls boot calls)
 unfolding cut
 cut-same boot calls = refl
 

@@ -1,3 +1,4 @@
 pub mod Worlds
 pub mod Booting
 pub mod Starting
+pub mod Putting

@@ -7,6 +7,7 @@ mod cut;
 mod cut_tests;
 mod fault;
 mod stages;
+mod store;
 #[cfg(test)]
 mod tests;
 mod world;

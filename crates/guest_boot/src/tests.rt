@@ -1,9 +1,9 @@
 ghost use Rattle.std.specs.Prelude.{◌<◌, ◌≤◌, ◌^◌, IfOk};
 ghost use Rattle.event_core.specs.Map.{MapRules};
 
-use crate::{BootFault, boot};
+use crate::{BootFault, World, boot};
 use event_core::{CallKind, ModuleCall, PortAnswer};
-use guest_base::{Level, Page, Pages, Unit, Units};
+use guest_base::{Block, Level, Page, Pages, Unit, Units};
 use guest_map::GuestMap;
 use page_module::MemPort;
 use std::alloc::{AllocError, Global};
@@ -41,6 +41,11 @@ fn whole_blocks_wait(rt: HostRuntime) -> Result<(), Fail> {
     assert_eq!(rt; (world.boot.areas, world.boot.cpus), (4, 2));
     let units = Units { first: 0, count: 4 };
     assert_eq!(rt; world.memory.next_run(Unit(0), Unit(8)), Some(units));
+    let waiting = Block {
+        first: 1024,
+        order: 10,
+    };
+    assert_eq!(rt; world.memory.waiting_block(), Some(waiting));
     Ok(())
 }
 
@@ -49,19 +54,28 @@ const PAGE_UNITS: [u8; 24] = [
     1, 0, 0, 0, 0, 0x10, 0, 0, 0, 0, 0x40, 0, 0, 0, 0, 0, 0, 1, 0, 0, 0, 0, 0, 0,
 ];
 
-#[test]
-fn a_table_says_what_is_unaccepted(rt: HostRuntime) -> Result<(), Fail> {
-    let alloc = rt.alloc();
-    let map = map_of(alloc, 2048)?;
+/// Boots a map of this many pages from 4 MiB on, over a table of the bits of 2,048 units of 4 KiB.
+fn world_over(alloc: Global, count: u64, bits: &[u8]) -> Result<World, Fail>
+    requires some { 0 < count }
+    requires few { count ≤ 2 ^ 24 }
+{
+    let map = map_of(alloc, count)?;
     let mut bytes = Vec::from_slice(alloc, &PAGE_UNITS)?;
-    bytes.extend_from_slice(&[0; 64])?;
-    bytes.extend_from_slice(&[0xff; 192])?;
+    bytes.extend_from_slice(bits)?;
     let table = read_table(alloc, bytes.as_slice())?;
     let table = table.fit(&map).ok().ok_or("a bad bit")?;
     let mut port = MemPort::new(alloc, Vec::new(alloc));
     let world = boot(alloc, &map, Some(table), 4, 2, &mut port)
         .ok()
         .ok_or("no world")?;
+    Ok(world)
+}
+
+#[test]
+fn a_table_says_what_is_unaccepted(rt: HostRuntime) -> Result<(), Fail> {
+    let mut bits = [0; 256];
+    bits[64..].fill(0xff);
+    let world = world_over(rt.alloc(), 2048, &bits)?;
     assert!(rt; world.boot.calls.is_empty());
     assert_eq!(rt; world.boot.unit, 4096);
     let units = Units {
@@ -69,6 +83,34 @@ fn a_table_says_what_is_unaccepted(rt: HostRuntime) -> Result<(), Fail> {
         count: 1536,
     };
     assert_eq!(rt; world.memory.next_run(Unit(0), Unit(2048)), Some(units));
+    Ok(())
+}
+
+#[test]
+fn an_accepted_block_is_free(rt: HostRuntime) -> Result<(), Fail> {
+    let mut bits = [0; 256];
+    bits[129..].fill(0xff);
+    let world = world_over(rt.alloc(), 2048, &bits)?;
+    assert!(rt; world.boot.calls.is_empty());
+    let waiting = Block {
+        first: 2048,
+        order: 10,
+    };
+    assert_eq!(rt; world.memory.waiting_block(), Some(waiting));
+    Ok(())
+}
+
+#[test]
+fn a_guard_that_is_accepted_later_makes_a_block_wait(rt: HostRuntime) -> Result<(), Fail> {
+    let mut bits = [0; 256];
+    bits[128..192].fill(0xff);
+    let world = world_over(rt.alloc(), 1536, &bits)?;
+    assert_eq!(rt; world.memory.next_run(Unit(0), Unit(2048)), None);
+    let waiting = Block {
+        first: 1024,
+        order: 10,
+    };
+    assert_eq!(rt; world.memory.waiting_block(), Some(waiting));
     Ok(())
 }
 
@@ -86,6 +128,7 @@ fn short_descriptors_are_accepted(rt: HostRuntime) -> Result<(), Fail> {
     }
     assert_eq!(rt; world.boot.calls.as_slice(), calls.as_slice());
     assert_eq!(rt; world.memory.next_run(Unit(0), Unit(8)), None);
+    assert_eq!(rt; world.memory.waiting_block(), None);
     Ok(())
 }
 

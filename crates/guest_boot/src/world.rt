@@ -1,5 +1,6 @@
 //! Boot: what is made of a map, and the memory that it leaves.
-ghost use Rattle.std.specs.Prelude.{◌≡◌, ◌≤◌, ◌+◌, ◌^◌, [], None, Some, Err, List, All, IfOk, OnOk, map};
+ghost use Rattle.std.specs.Prelude.{◌≡◌, ◌≤◌, ◌+◌, ◌^◌, [], None, Some, Err, List, All, IfOk, OnOk, map, length};
+ghost use Rattle.std.specs.List.{AllPairs};
 ghost use Rattle.guest_base.specs.Counts.{Rose};
 ghost use Rattle.guest_base.specs.declared.limits.TheConstants.{PAGE_END};
 ghost use Rattle.guest_base.specs.declared.memory.Block.{Block as BlockValue};
@@ -10,16 +11,20 @@ ghost use Rattle.event_core.specs.Map.{MapRules};
 ghost use Rattle.event_core.specs.Given.{FitsGiven};
 ghost use Rattle.event_core.specs.Boot.{BootRight, BootStopped, BootFront, InTurn, StagePart};
 ghost use Rattle.event_core.specs.Cut.{cut};
+ghost use Rattle.event_core.specs.Runs.{GoesBefore};
 ghost use Rattle.memory_core.specs.Booted.{IsBooted};
 ghost use Rattle.unaccepted_bitmap.specs.StubMap.{pending_run};
 ghost use Rattle.guest_boot.specs.Booting.{StandsAfter, WorkedOn, FaultsBy, stages_by, IsEarly};
 ghost use Rattle.guest_boot.specs.Starting.{IsFirstBoot, BeginsWith};
 ghost use Rattle.guest_boot.specs.Worlds.{WorldStands};
+ghost use Rattle.guest_boot.specs.Putting.{HasPut, StagesPut};
 
 use crate::accept::Kept;
 use crate::cut::cut_blocks;
 use crate::fault::BootFault;
 use crate::stages::{accept_blocks, accept_early};
+use crate::store::with_room;
+use block_allocator::Blocks;
 use event_core::{Boot, Hosts, Runs};
 use guest_base::{Block, Bytes, Items, PageRun};
 use guest_map::GuestMap;
@@ -40,7 +45,9 @@ pub struct World {
 
 /// Boots a map without a pool, over the table of an earlier kernel where one is handed in. The table is one that fits the map; there
 /// are at most 64 processors. All module calls are made through `port`, which has made none: those of the early pieces, of which
-/// there are none with a table, and then of the blocks smaller than 4 MiB whose guarded units aren't all accepted, rising.
+/// there are none with a table, and then of the blocks smaller than 4 MiB whose guarded units aren't all accepted, rising. The memory
+/// has the blocks into which RAM is cut: one of 4 MiB waits where one of its guarded units is unaccepted when boot comes to it, and
+/// all others are free.
 ///
 /// `Module` comes only where one of these acceptances stopped, so only where the port's count of faults rose; the port's calls are
 /// then boot's up to there. Whatever the answer, the port's calls are a front of boot's, and a port that never fails stays one.
@@ -71,6 +78,7 @@ pub fn boot<P: Port>(
 {
     let Given { ram, bits, pieces } = first_of(alloc, map, table)?;
     let blocks = cut_blocks(alloc, &ram)?;
+    let mut store = with_room(alloc, blocks.len())?;
     let table = PageTable::new(alloc, &ram)?;
     let mut boot = first_boot(alloc, &map.hosts, ram, &bits, areas, cpus)?;
     let mut kept = Kept {
@@ -85,10 +93,11 @@ pub fn boot<P: Port>(
         port,
         pieces.as_slice(),
         blocks.as_slice(),
+        &mut store,
     )?;
     let Kept { table, bits, calls } = kept;
     boot.calls = Items::from_vec(calls);
-    let memory = Memory::new(alloc, &boot, table, bits)?;
+    let memory = Memory::new(alloc, &boot, table, bits, store)?;
     Ok(World { boot, memory })
 }
 
@@ -149,7 +158,7 @@ fn first_boot(
     })
 }
 
-/// Accepts the early pieces, and then the blocks smaller than 4 MiB.
+/// Accepts the early pieces, and then the blocks smaller than 4 MiB, and puts each block of the cut into the store.
 fn accept_stages<P: Port>(
     alloc: Global,
     boot: &Boot,
@@ -157,19 +166,25 @@ fn accept_stages<P: Port>(
     port: &mut P,
     pieces: &[PageRun],
     blocks: &[Block],
+    store: &mut Blocks,
 ) -> Result<(), BootFault>
+    requires ram { AllPairs GoesBefore boot.now.ram }
     requires booted { IsBooted boot.now }
     requires stands { StandsAfter boot.now (P.made port.old) kept.old }
     requires early { All (λ (piece : PageRunValue). IsEarly boot.now piece.pages) pieces.now }
     requires blocks { blocks.now ≡ cut boot.now }
     requires orders { All (λ (b : BlockValue). b.order ≤ 10) blocks.now }
     requires ends { All (λ (b : BlockValue). b.first + 2 ^ b.order ≤ PAGE_END) blocks.now }
+    requires empty { HasPut [] store.old }
+    requires room { length blocks.now ≤ store.old.room }
     ensures done { WorkedOn boot.now
         (InTurn (StagePart boot.now) (P.made port.old) (stages_by boot.now pieces.now))
         (P.made port.old) (P.made port.new) kept.new result }
+    ensures put { OnOk result
+        (StagesPut boot.now (P.made port.old) pieces.now (P.made port.new) store.new) }
     ensures faults { FaultsBy (P.faults port.old) (P.faults port.new) result }
     ensures never_fails { P.never_fails port.old → P.never_fails port.new }
 {
     accept_early(alloc, boot, kept, port, pieces)?;
-    accept_blocks(alloc, boot, kept, port, blocks)
+    accept_blocks(alloc, boot, kept, port, blocks, store)
 }

@@ -5,8 +5,10 @@ use Rattle.std.proofs.lemmas.List.{map-append}
 use Rattle.std.proofs.lemmas.List.Elements.{All-nil}
 use Rattle.std.proofs.lemmas.List.Sums.{fold-append}
 use Rattle.guest_base.specs.Counts.{Rose}
+use Rattle.guest_base.specs.declared.memory.Block.{Block}
 use Rattle.guest_base.specs.declared.memory.Units.{Units}
 use Rattle.event_core.specs.declared.boot.Boot.{Boot}
+use Rattle.event_core.specs.declared.command.Command.{Command}
 use Rattle.event_core.specs.declared.command.Command.TheVariants as command
 use Rattle.event_core.specs.declared.entry.Entry.{Entry}
 use Rattle.event_core.specs.declared.entry.Turn.{Turn}
@@ -20,34 +22,36 @@ use Rattle.event_core.specs.Legal.{greatest_stamp}
 use Rattle.event_core.specs.MemoryRows.{run_of_claim}
 use Rattle.event_core.specs.Moved.{Moved}
 use Rattle.event_core.specs.Next.{claim_reply}
-use Rattle.event_core.specs.Own.{replied}
-use Rattle.event_core.specs.Refusals.{memory_range_refusal}
-use Rattle.event_core.specs.Units.{bit_after, guarded_units, units_end}
-use Rattle.memory_core.specs.Answers.{BegunBy, IsBlocked as IsBegunBlocked, Opens}
+use Rattle.event_core.specs.Own.{after_alloc, own_of, replied}
+use Rattle.event_core.specs.Holdings.{Own}
+use Rattle.event_core.specs.Refusals.{refusal_of}
+use Rattle.event_core.specs.Units.{bit_after, units_end}
+use Rattle.memory_core.specs.Answers.{Opens, OthersKeep}
 use Rattle.memory_core.specs.Bitmaps.{AreRunsFrom}
-use Rattle.memory_core.specs.Steps.{Appends, claim_of_units, last_stamp}
+use Rattle.memory_core.specs.Owners.{is_owner}
+use Rattle.memory_core.specs.Steps.{Appends, last_stamp}
 use Rattle.memory_core.specs.UnderLock.{unmoved}
 use Rattle.memory_core.specs.Value.{MemoryValue}
-use Rattle.memory_core.specs.declared.memory.Begin.{Begin}
-use Rattle.memory_core.specs.declared.memory.Begin.TheVariants.{Clear, Claimed as IsClaimed, Blocked}
+use Rattle.memory_core.specs.Waiting.{waiting_left}
 use Rattle.memory_core.proofs.StepLemmas.{claim-mine}
 use Rattle.memory_core.proofs.UnitsLemmas.{first_run-facts}
 use Rattle.page_module.specs.Spans.{Taken}
 use Rattle.guest_steps.specs.Replies.{is_module}
-use Rattle.guest_steps.specs.Seen.{Seen, left_by}
-use Rattle.guest_steps.specs.Standing.{Claiming, IsAsHanded, unreported}
-use Rattle.guest_steps.specs.Steps.{IsBlocked, MakesIn, RoomAlone, without_reply}
+use Rattle.guest_steps.specs.Seen.{Seen, left_by, steps_waiting}
+use Rattle.guest_steps.specs.Standing.{Claiming, ClaimsFor, IsAsHanded, unreported}
+use Rattle.guest_steps.specs.Steps.{IsBlocked, IsNext, MakesIn, RoomAlone, memory_after, without_reply}
 use Rattle.guest_steps.specs.declared.processor.Stepped.{Stepped}
 use Rattle.guest_steps.specs.declared.processor.Stepped.TheVariants as stepped
+use Rattle.guest_steps.proofs.AccountLemmas.{cleared-less, waiting-fewer}
 use Rattle.guest_cpu.specs.Kept.{most_of}
 use Rattle.guest_cpu.specs.Made.{turn_of}
 use Rattle.guest_cpu.specs.Progressing.{Progressed, command_of, moved_in}
 use Rattle.guest_cpu.specs.Standing.{CourseStands, RunsAre, RunsStand, seen_with}
-use Rattle.guest_cpu.specs.Stepping.{AreRunsAmong, Begins, ClaimMade, OnlyRoom, claim_made, first_of, going_on, memory_entry, span_of_claim}
-use Rattle.guest_cpu.proofs.CourseLemmas.{ends-less, made-course, no-runs, rests-free, rests-undone}
+use Rattle.guest_cpu.specs.Stepping.{AreRunsAmong, ClaimMade, OnlyRoom, claim_made, first_of, going_on, memory_entry, reply_of_claim, runs_with}
+use Rattle.guest_cpu.proofs.CourseLemmas.{made-course, no-runs, replied-less, rests-free, rests-undone}
+use Rattle.guest_cpu.proofs.OwnLemmas.{alloc-still}
 use Rattle.guest_cpu.proofs.MemoryLemmas.{Stepped_to, room-steps}
-use Rattle.guest_cpu.proofs.RoomAloneLemmas.{room-course, seen-room}
-use Rattle.guest_cpu.proofs.NextLemmas.{claim-next}
+use Rattle.guest_cpu.proofs.RoomAloneLemmas.{seen-room}
 use Rattle.guest_cpu.proofs.ToldLemmas.{less-claimed, replied-push}
 
 -- What a claim makes of a processor that stands.
@@ -71,15 +75,15 @@ clock-low entries memory after e stamp is =
 
 -- ---- runs
 
-record First (memory : MemoryValue) (units : Option Units) (runs : List Units) (run : Units) : Type 0 where
-  later : List Units
-  are : runs ≡ run ∷ later
-  among : Units
-  is : units ≡ Some among
-  some : 0 < run.count
-  behind : AreRunsFrom (bit_after memory.boot (calls_of memory.boot memory.entries)) (units_end run) (units_end among) later
+pub record First (memory : MemoryValue) (units : Option Units) (runs : List Units) (run : Units) : Type 0 where
+  pub later : List Units
+  pub are : runs ≡ run ∷ later
+  pub among : Units
+  pub is : units ≡ Some among
+  pub some : 0 < run.count
+  pub behind : AreRunsFrom (bit_after memory.boot (calls_of memory.boot memory.entries)) (units_end run) (units_end among) later
 
-among-first : (memory : MemoryValue) (units : Option Units) (runs : List Units) (run : Units) → AreRunsAmong memory units runs → run_of_claim memory.boot memory.entries units ≡ Some run → First memory units runs run
+pub among-first : (memory : MemoryValue) (units : Option Units) (runs : List Units) (run : Units) → AreRunsAmong memory units runs → run_of_claim memory.boot memory.entries units ≡ Some run → First memory units runs run
 among-first memory None runs run are first = absurd (let no : None ≡ Some run = first in cc)
 among-first memory (Some u) [] run are first = absurd (let no : None ≡ Some run = sym are ∙ first in cc)
 among-first memory (Some u) (r ∷ later) run are first =
@@ -90,204 +94,241 @@ among-first memory (Some u) (r ∷ later) run are first =
     record { later = later; are = ap (λ x. x ∷ later) same; among = u; is = refl; some = facts.some; behind = subst B same are.1 }
 
 -- a claim without a run isn't open
-opened-none : (units run : Option Units) (calls : List ModuleCall) → run ≡ None → opened None units run calls ≡ None
-opened-none None run calls is = refl
-opened-none (Some u) None calls is = refl
-opened-none (Some u) (Some run) calls is = absurd (let no : Some run ≡ None = is in cc)
+opened-none : (block : Option Block) (units run : Option Units) (calls : List ModuleCall) → run ≡ None → opened block units run calls ≡ None
+opened-none block None run calls is = refl
+opened-none block (Some u) None calls is = refl
+opened-none block (Some u) (Some run) calls is = absurd (let no : Some run ≡ None = is in cc)
 
-abbrev open_claim : Units → Units → List ModuleCall → Claimed
-open_claim units run calls = record { block = None; units = units; run = run; before = calls; cleared = 0 }
+abbrev open_claim : Option Block → Units → Units → List ModuleCall → Claimed
+open_claim block units run calls = record { block = block; units = units; run = run; before = calls; cleared = 0 }
 
-opened-some : (units run : Option Units) (u r : Units) (calls : List ModuleCall) → units ≡ Some u → run ≡ Some r → opened None units run calls ≡ Some (open_claim u r calls)
-opened-some units run u r calls is_units is_run =
-    ap (λ o. opened None o run calls) is_units ∙ ap (λ o. opened None (Some u) o calls) is_run
+opened-some : (block : Option Block) (units run : Option Units) (u r : Units) (calls : List ModuleCall) → units ≡ Some u → run ≡ Some r → opened block units run calls ≡ Some (open_claim block u r calls)
+opened-some block units run u r calls is_units is_run =
+    ap (λ o. opened block o run calls) is_units ∙ ap (λ o. opened block (Some u) o calls) is_run
 
 pub same-claimed : (found : Option Claimed) (a b : Claimed) → found ≡ Some a → found ≡ Some b → a ≡ b
 same-claimed found a b is other = let some : Some a ≡ Some b = sym is ∙ other in (let same : a ≡ b = cc in same)
 
 -- ---- the claim
 
+-- the claim took out its first run; or it found none, and where it is for a block that is accepted
+abbrev pub OpensBy : MemoryValue → MemoryValue → ℕ → Option Block → Option Units → Option Taken → Type 0
+OpensBy before after cpu block units None =
+    (in_the_way before.boot before.entries units ≡ None) × (run_of_claim before.boot before.entries units ≡ None)
+    × (block ≢ None → waiting_left before.boot after.entries < waiting_left before.boot before.entries)
+OpensBy before after cpu block units (Some span) = Opens before after cpu units span
+
 -- what a claim is made over
-pub record ClaimOver (p q : Progressed) (made_before made : List ModuleCall) (faults_before faults kept : ℕ) (before after : MemoryValue) (start len : ℕ) (runs : List Units) (ended : Stepped) : Type 0 where
+pub record ClaimOver (p q : Progressed) (made_before made : List ModuleCall) (faults_before faults kept : ℕ) (before after : MemoryValue) (c : Command) (block : Option Block) (units : Option Units) (runs : List Units) (span : Option Taken) (ended : Stepped) : Type 0 where
   pub stands : CourseStands p made_before made faults_before faults kept before
   pub rests : p.out ≡ None
-  pub now : command_of p ≡ Some (command.Accept start len)
-  pub fine : memory_range_refusal start len ≡ None
-  pub begins : Begins p q before after start len runs ended
-  pub among : AreRunsAmong before (guarded_units before.boot start len) runs
+  pub now : command_of p ≡ Some c
+  pub fine : refusal_of p.boot (own_of p.script (moved_in p)) c ≡ None
+  pub claims : ClaimsFor c block
+  pub next : in_the_way before.boot before.entries units ≡ None
+      → (let run = run_of_claim before.boot before.entries units in IsNext (seen_with p made_before made faults_before faults) before.entries (memory_entry p before (event.Claim block units run) (reply_of_claim block run)))
+  pub did : ClaimMade p q before after block units span runs ended
+  pub opens : OpensBy before after p.number block units span
+  pub others : OthersKeep before after p.number
+  pub among : AreRunsAmong before units runs
   pub owed : sum_by (most_of p.boot) runs ≤ kept
 
--- a claim is made, or blocked
-abbrev pub ClaimEnds : Progressed → Progressed → List ModuleCall → List ModuleCall → ℕ → ℕ → ℕ → MemoryValue → MemoryValue → Stepped → Type 0
-ClaimEnds p q made_before made faults_before faults kept before after ended =
-    ((ended ≡ stepped.Event) × Stepped_to p q made_before made faults_before faults kept before after)
-    ⊎ ((ended ≡ stepped.Blocked) × (q ≡ p) × (after ≡ before) × IsBlocked (seen_with p made_before made faults_before faults) before.entries)
+-- the command of a claim isn't refused behind an entry that doesn't end it either
+pub fine-behind : (boot : Boot) (script : List Command) (entries : List Entry) (e : Entry) (c : Command) (block : Option Block) → ClaimsFor c block → ((name : List ℕ) (own : Own) → after_alloc name e.event own ≡ own) → e.reply ≡ None → slice_get script e.cmd ≡ Some c
+    → refusal_of boot (own_of script (map unmoved entries)) c ≡ None → refusal_of boot (own_of script (map unmoved (entries ++ e ∷ []))) c ≡ None
+fine-behind boot script entries e (command.Accept start len) block claims quiet none its fine = fine
+fine-behind boot script entries e (command.Alloc name order) block claims quiet none its fine =
+    ap (λ (o : Own). refusal_of boot o (command.Alloc name order)) (alloc-still script entries e name order its none (quiet name)) ∙ fine
+fine-behind boot script entries e _ block claims quiet none its fine = absurd claims
 
-module _ (made_before made : List ModuleCall) (faults_before faults kept : ℕ) (p0 q : Progressed) (before after : MemoryValue) (start len : ℕ) (runs : List Units) (ended : Stepped) where
+no-module : (block : Option Block) (run : Option Units) (before after : ℕ) → is_module (reply_of_claim block run) ≡ true → Rose before after
+no-module None None before after is = absurd (let no : false ≡ true = is in cc)
+no-module None (Some run) before after is = absurd (let no : false ≡ true = is in cc)
+no-module (Some block) run before after is = absurd (let no : false ≡ true = is in cc)
+
+no-reply : (block : Option Block) (run : Option Units) (r : Units) → run ≡ Some r → reply_of_claim block run ≡ None
+no-reply None run r is = ap claim_reply is
+no-reply (Some block) run r is = refl
+
+module _ (made_before made : List ModuleCall) (faults_before faults kept : ℕ) (p0 q : Progressed) (before after : MemoryValue) (c : Command) (block : Option Block) (units : Option Units) (runs : List Units) (span : Option Taken) (ended : Stepped) where
   abbrev p : Progressed
   p = record p0 { boot = before.boot }
 
   abbrev see : Progressed → Seen
   see x = seen_with x made_before made faults_before faults
 
-  abbrev units : Option Units
-  units = guarded_units before.boot start len
-
   abbrev run : Option Units
   run = run_of_claim before.boot before.entries units
 
   abbrev e : Entry
-  e = memory_entry p before (event.Claim None units run) (claim_reply run)
+  e = memory_entry p before (event.Claim block units run) (reply_of_claim block run)
 
-  module _ (h : ClaimOver p q made_before made faults_before faults kept before after start len runs ended) where
+  module _ (h : ClaimOver p q made_before made faults_before faults kept before after c block units runs span ended) where
     undone : p0.done ≡ None
     undone = rests-undone (see p) before p0.out p0.done h.stands.stands.out h.rests
 
     free : claim_of before.boot before.entries p0.number ≡ None
     free = rests-free (see p) before p0.out p0.done h.stands.stands.out h.rests
 
+    appends : Appends before after (turn_of p0.number p0.entries) h.did.turned (event.Claim block units run)
+    appends = h.did.appends
+
     -- the claim after it
-    claim-is : (turned : Turn) → Appends before after (turn_of p0.number p0.entries) turned (claim_of_units before units) → claim_of before.boot after.entries p0.number ≡ opened None units run (calls_of before.boot before.entries)
-    claim-is turned appends =
-        ap (λ (es : List Entry). claim_of before.boot es p0.number) appends.entries ∙ claim-mine before.boot before.entries (turn_of p0.number p0.entries) (last_stamp before.entries) (event.Claim None units run)
+    claim-is : claim_of before.boot after.entries p0.number ≡ opened block units run (calls_of before.boot before.entries)
+    claim-is =
+        ap (λ (es : List Entry). claim_of before.boot es p0.number) appends.entries ∙ claim-mine before.boot before.entries (turn_of p0.number p0.entries) (last_stamp before.entries) (event.Claim block units run)
 
     -- the entry that was made
-    entry-is : (turned : Turn) (rs : List Units) → Appends before after (turn_of p0.number p0.entries) turned (claim_of_units before units) → first_of rs ≡ run → claim_made turned units rs ≡ e
-    entry-is turned rs appends first =
-        ap (λ (t : Turn). claim_made t units rs) appends.clock
-        ∙ ap (λ (o : Option Units). let x : Entry = memory_entry p before (event.Claim None units o) (claim_reply o) in x) first
+    entry-is : (rs : List Units) → first_of rs ≡ run → claim_made h.did.turned block units rs ≡ e
+    entry-is rs first =
+        ap (λ (t : Turn). claim_made t block units rs) appends.clock
+        ∙ ap (λ (o : Option Units). let x : Entry = memory_entry p before (event.Claim block units o) (reply_of_claim block o) in x) first
 
-    module _ (turned : Turn) (appends : Appends before after (turn_of p0.number p0.entries) turned (claim_of_units before units)) (way : in_the_way before.boot before.entries units ≡ None) where
-      -- with no run it ends
-      clear-steps : run ≡ None → q ≡ going_on p (claim_made turned units []) None [] q.room → Stepped_to p q made_before made faults_before faults kept before after
-      clear-steps none course =
-          let is : q ≡ going_on p e None [] q.room = course ∙ ap (λ (x : Entry). let y : Progressed = going_on p x None [] q.room in y) (entry-is turned [] appends (sym none)) in
-          let Q : Progressed → Type 0 = λ x. Stepped_to p x made_before made faults_before faults kept before after in
-          let still : claim_of before.boot after.entries p0.number ≡ None = claim-is turned appends ∙ opened-none units run (calls_of before.boot before.entries) none in
-          let ends : e.reply ≡ Some (reply.Count 0) = ap claim_reply none in
-          let L : Option Taken → Type 0 = λ o. left_by (length p0.script) (replied (map unmoved (p0.entries ++ e ∷ []))) None < left_by (length p0.script) (replied (moved_in p0)) o in
-          let makes : MakesIn (see p) (see (going_on p e None [] q.room)) before after = record {
-            entry = e;
-            makes = record {
-              next = claim-next (see p) before.entries start len h.fine h.now free way;
-              entries = refl;
-              same = record { boot = refl; number = refl; script = refl; made_before = refl; made = refl; faults_before = refl; faults = refl };
-              done = refl;
-              less = subst L (sym h.rests) (ends-less made_before made faults_before faults p e (reply.Count 0) (command.Accept start len) h.now ends);
-            };
-            boot = appends.boot;
-            entries = appends.entries;
-            others = h.begins.others;
-          } in
-          subst Q (sym is) (record {
-            makes = makes;
-            stands = made-course made_before made faults_before faults p e None [] q.room kept before after h.stands makes still
-                (no-runs made_before made faults_before faults (going_on p e None [] q.room) after still) (omega arith) (sym (ap unreported undone)) (no-module run);
-          })
-        where
-          no-module : (r : Option Units) → is_module (claim_reply r) ≡ true → Rose faults_before faults
-          no-module None is = absurd (let no : false ≡ true = is in cc)
-          no-module (Some r) is = absurd (let no : false ≡ true = is in cc)
+    -- no more blocks wait, and fewer where it makes one accepted
+    waits-on : steps_waiting before.boot (memory_after before.entries e) ≡ steps_waiting before.boot after.entries
+    waits-on = ap (steps_waiting before.boot) (sym appends.entries)
 
-      -- with a run it is open, and the run's pages are out
-      run-steps : (span : Taken) → Opens before after p0.number units span → q ≡ going_on p (claim_made turned units runs) (Some span) runs q.room → Stepped_to p q made_before made faults_before faults kept before after
-      run-steps span opens course =
-          let first = among-first before units runs opens.run h.among opens.first in
-          let told : first_of runs ≡ run = ap first_of first.are ∙ sym opens.first in
-          let is : q ≡ going_on p e (Some span) runs q.room = course ∙ ap (λ (x : Entry). let y : Progressed = going_on p x (Some span) runs q.room in y) (entry-is turned runs appends told) in
-          let Q : Progressed → Type 0 = λ x. Stepped_to p x made_before made faults_before faults kept before after in
-          let claim = open_claim first.among opens.run (calls_of before.boot before.entries) in
-          let claimed : claim_of before.boot after.entries p0.number ≡ Some claim = claim-is turned appends ∙ opened-some units run first.among opens.run (calls_of before.boot before.entries) first.is opens.first in
-          let open_still : e.reply ≡ None = ap claim_reply opens.first in
-          let count : replied (map unmoved (p0.entries ++ e ∷ [])) ≡ replied (moved_in p0) = replied-push p0.entries e ∙ (let z : replied (moved_in p0) + cond (is_some e.reply) 1 0 ≡ replied (moved_in p0) = ap (λ (o : Option Reply). replied (moved_in p0) + cond (is_some o) 1 0) open_still ∙ add_zero (replied (moved_in p0)) in z) in
-          let more = slice_get_within p0.script (replied (moved_in p0)) (command.Accept start len) h.now in
-          let fewer = less-claimed (length p0.script) (replied (moved_in p0)) span more in
-          let same = ap (λ n. left_by (length p0.script) n (Some span)) count in
-          let L : Option Taken → Type 0 = λ o. left_by (length p0.script) (replied (map unmoved (p0.entries ++ e ∷ []))) (Some span) < left_by (length p0.script) (replied (moved_in p0)) o in
-          let makes : MakesIn (see p) (see (going_on p e (Some span) runs q.room)) before after = record {
-            entry = e;
-            makes = record {
-              next = claim-next (see p) before.entries start len h.fine h.now free way;
-              entries = refl;
-              same = record { boot = refl; number = refl; script = refl; made_before = refl; made = refl; faults_before = refl; faults = refl };
-              done = refl;
-              less = subst L (sym h.rests) (omega (arith, fewer, same));
-            };
-            boot = appends.boot;
-            entries = appends.entries;
-            others = h.begins.others;
-          } in
-          let now : command_of (going_on p e (Some span) runs q.room) ≡ Some (command.Accept start len) = ap (slice_get p0.script) count ∙ h.now in
-          let claiming : Claiming (see (going_on p e (Some span) runs q.room)) after claim span = record {
-            claimed = claimed;
-            handed = record { ticket = span.ticket; room = opens.out.room };
-            is_handed = opens.out.handed;
-            ticket = refl;
-            some = first.some;
-            start = start;
-            len = len;
-            command = now;
-            fine = h.fine;
-            clock = clock-low p0.entries before.entries after.entries e refl appends.entries;
-          } in
-          let handed : IsAsHanded after p0.number claim span = record {
-            before = after.entries;
-            rest = [];
-            split = sym (append-nil after.entries);
-            others = All-nil (λ (x : Entry). x.cpu.0 ≢ p0.number);
-            has = opens.out.has;
-          } in
-          let R : List Units → Type 0 = λ rs. RunsAre before.boot claim rs in
-          let are : RunsAre before.boot claim runs = subst R (sym first.are) (refl, first.behind) in
-          let stand : RunsStand (going_on p e (Some span) runs q.room) after = (λ other has. (let C : Claimed → Type 0 = λ x. RunsAre before.boot x runs in subst C (same-claimed (claim_of before.boot after.entries p0.number) claim other claimed has) are)) in
-          subst Q (sym is) (record {
-            makes = makes;
-            stands = made-course made_before made faults_before faults p e (Some span) runs q.room kept before after h.stands makes (claim, claiming, handed) stand h.owed (sym (ap unreported undone)) (no-module run);
-          })
-        where
-          add_zero : (n : ℕ) → n + 0 ≡ n
-          add_zero n = omega arith
+    abbrev LeftIn : Option Taken → Option Taken → Type 0
+    LeftIn out o = left_by (length p0.script) (replied (map unmoved (p0.entries ++ e ∷ []))) out + steps_waiting before.boot (memory_after before.entries e) < left_by (length p0.script) (replied (moved_in p0)) o + steps_waiting before.boot before.entries
 
-          no-module : (r : Option Units) → is_module (claim_reply r) ≡ true → Rose faults_before faults
-          no-module None is = absurd (let no : false ≡ true = is in cc)
-          no-module (Some r) is = absurd (let no : false ≡ true = is in cc)
+    abbrev makes-with : (out : Option Taken) (rs : List Units) → in_the_way before.boot before.entries units ≡ None → LeftIn out None → MakesIn (see p) (see (going_on p e out rs q.room)) before after
+    makes-with out rs way less = record {
+      entry = e;
+      makes = record {
+        next = h.next way;
+        entries = refl;
+        same = record { boot = refl; number = refl; script = refl; made_before = refl; made = refl; faults_before = refl; faults = refl };
+        done = refl;
+        less = subst (LeftIn out) (sym h.rests) less;
+      };
+      boot = appends.boot;
+      entries = appends.entries;
+      others = h.others;
+    }
 
-    -- it is made, or blocked
-    ends-by : (begin : Begin) → BegunBy before after (turn_of p0.number p0.entries) units begin → (IsBegunBlocked begin → (ended ≡ stepped.Blocked) × (q ≡ p) × (after ≡ before))
-        → ((IsBegunBlocked begin → ⊥) → ClaimMade p q before after units (span_of_claim begin) runs ended)
-        → ClaimEnds p q made_before made faults_before faults kept before after ended
-    ends-by Clear begun blocked does =
-        let m = does (λ x. x) in
-        inl (m.event, clear-steps m.turned m.appends begun.0 begun.1 m.course)
-    ends-by (IsClaimed span) begun blocked does =
-        let m = does (λ x. x) in
-        inl (m.event, run-steps m.turned m.appends begun.free span begun m.course)
-    ends-by (Blocked met) begun blocked does =
-        let b = blocked tt in
-        inr (b.0, b.1, b.2, record { rests = h.rests; start = start; len = len; command = h.now; fine = h.fine; other = begun.cpu; way = begun.first })
+    nobodys : (got : Block) → e.event ≡ event.Got got → is_owner before.entries p0.number got ≡ false
+    nobodys got is = absurd (let no : event.Claim block units run ≡ event.Got got = is in cc)
 
-    pub claim-at : ClaimEnds p q made_before made faults_before faults kept before after ended
-    claim-at = ends-by h.begins.begin h.begins.begun h.begins.blocked h.begins.made
+    replies-none : e.reply ≡ None → replied (map unmoved (p0.entries ++ e ∷ [])) ≡ replied (moved_in p0)
+    replies-none none = replied-push p0.entries e ∙ ap (λ (o : Option Reply). replied (moved_in p0) + cond (is_some o) 1 0) none ∙ add_zero (replied (moved_in p0)) where
+      add_zero : (n : ℕ) → n + 0 ≡ n
+      add_zero n = omega arith
+
+    no-more : steps_waiting before.boot after.entries ≤ steps_waiting before.boot before.entries
+    no-more = waiting-fewer before.boot before.entries after.entries h.others.waiting
+
+    -- with no run an acceptance ends, and an allocation goes on with one block fewer that waits
+    clear-less : (b : Option Block) → block ≡ b → run ≡ None → (block ≢ None → waiting_left before.boot after.entries < waiting_left before.boot before.entries) → LeftIn None None
+    clear-less None is none pays =
+        let ends : e.reply ≡ Some (reply.Count 0) = ap (λ (x : Option Block). reply_of_claim x run) is ∙ ap claim_reply none in
+        let less = replied-less made_before made faults_before faults p e (reply.Count 0) c h.now ends in
+        let on = waits-on in
+        let more = no-more in
+        omega (arith, less, on, more)
+    clear-less (Some b) is none pays =
+        let still : e.reply ≡ None = ap (λ (x : Option Block). reply_of_claim x run) is in
+        let count = ap (λ n. left_by (length p0.script) n None) (replies-none still) in
+        let on = waits-on in
+        let fewer = pays (λ nothing. (let no : Some b ≡ None = sym is ∙ nothing in cc)) in
+        let less = cleared-less before.boot before.entries after.entries (length p0.script) (replied (moved_in p0)) fewer in
+        omega (arith, less, on, count)
+
+    clear-steps : in_the_way before.boot before.entries units ≡ None → run ≡ None → (block ≢ None → waiting_left before.boot after.entries < waiting_left before.boot before.entries)
+        → q ≡ going_on p (claim_made h.did.turned block units []) None [] q.room → Stepped_to p q made_before made faults_before faults kept before after
+    clear-steps way none pays course =
+        let is : q ≡ going_on p e None [] q.room = course ∙ ap (λ (x : Entry). let y : Progressed = going_on p x None [] q.room in y) (entry-is [] (sym none)) in
+        let Q : Progressed → Type 0 = λ x. Stepped_to p x made_before made faults_before faults kept before after in
+        let still : claim_of before.boot after.entries p0.number ≡ None = claim-is ∙ opened-none block units run (calls_of before.boot before.entries) none in
+        let makes = makes-with None [] way (clear-less block refl none pays) in
+        subst Q (sym is) (record {
+          makes = makes;
+          stands = made-course made_before made faults_before faults p e None [] q.room kept before after h.stands makes nobodys still
+              (no-runs made_before made faults_before faults (going_on p e None [] q.room) after still) (omega arith) (sym (ap unreported undone)) (no-module block run faults_before faults);
+        })
+
+    -- with a run it is open, and the run's pages are out
+    run-steps : (s : Taken) → Opens before after p0.number units s → q ≡ going_on p (claim_made h.did.turned block units runs) (Some s) runs q.room → Stepped_to p q made_before made faults_before faults kept before after
+    run-steps s opens course =
+        let first = among-first before units runs opens.run h.among opens.first in
+        let told : first_of runs ≡ run = ap first_of first.are ∙ sym opens.first in
+        let is : q ≡ going_on p e (Some s) runs q.room = course ∙ ap (λ (x : Entry). let y : Progressed = going_on p x (Some s) runs q.room in y) (entry-is runs told) in
+        let Q : Progressed → Type 0 = λ x. Stepped_to p x made_before made faults_before faults kept before after in
+        let claim = open_claim block first.among opens.run (calls_of before.boot before.entries) in
+        let claimed : claim_of before.boot after.entries p0.number ≡ Some claim = claim-is ∙ opened-some block units run first.among opens.run (calls_of before.boot before.entries) first.is opens.first in
+        let open_still : e.reply ≡ None = no-reply block run opens.run opens.first in
+        let count = replies-none open_still in
+        let more = slice_get_within p0.script (replied (moved_in p0)) c h.now in
+        let fewer = less-claimed (length p0.script) (replied (moved_in p0)) s more in
+        let same = ap (λ n. left_by (length p0.script) n (Some s)) count in
+        let on = waits-on in
+        let waiting = no-more in
+        let makes = makes-with (Some s) runs opens.free (omega (arith, fewer, same, on, waiting)) in
+        let now : command_of (going_on p e (Some s) runs q.room) ≡ Some c = ap (slice_get p0.script) count ∙ h.now in
+        let claiming : Claiming (see (going_on p e (Some s) runs q.room)) after claim s = record {
+          claimed = claimed;
+          handed = record { ticket = s.ticket; room = opens.out.room };
+          is_handed = opens.out.handed;
+          ticket = refl;
+          some = first.some;
+          command = c;
+          present = now;
+          fine = fine-behind before.boot p0.script p0.entries e c block h.claims (λ name own. refl) open_still h.now h.fine;
+          claims = h.claims;
+          clock = clock-low p0.entries before.entries after.entries e refl appends.entries;
+        } in
+        let handed : IsAsHanded after p0.number claim s = record {
+          before = after.entries;
+          rest = [];
+          split = sym (append-nil after.entries);
+          others = All-nil (λ (x : Entry). x.cpu.0 ≢ p0.number);
+          has = opens.out.has;
+        } in
+        let R : List Units → Type 0 = λ rs. RunsAre before.boot claim rs in
+        let are : RunsAre before.boot claim runs = subst R (sym first.are) (refl, first.behind) in
+        let stand : RunsStand (going_on p e (Some s) runs q.room) after = (λ other has. (let C : Claimed → Type 0 = λ x. RunsAre before.boot x runs in subst C (same-claimed (claim_of before.boot after.entries p0.number) claim other claimed has) are)) in
+        subst Q (sym is) (record {
+          makes = makes;
+          stands = made-course made_before made faults_before faults p e (Some s) runs q.room kept before after h.stands makes nobodys (claim, claiming, handed) stand h.owed (sym (ap unreported undone)) (no-module block run faults_before faults);
+        })
+
+    steps-by : (s : Option Taken) → OpensBy before after p0.number block units s → q ≡ going_on p (claim_made h.did.turned block units (runs_with s runs)) s (runs_with s runs) q.room → Stepped_to p q made_before made faults_before faults kept before after
+    steps-by None opens course = clear-steps opens.0 opens.1 opens.2 course
+    steps-by (Some s) opens course = run-steps s opens course
+
+    pub claim-at : Stepped_to p q made_before made faults_before faults kept before after
+    claim-at = steps-by span h.opens h.did.course
 
 -- the same, of a processor of the memory's boot
-claim-ends : (p q : Progressed) (made_before made : List ModuleCall) (faults_before faults kept : ℕ) (before after : MemoryValue) (start len : ℕ) (runs : List Units) (ended : Stepped) → ClaimOver p q made_before made faults_before faults kept before after start len runs ended → ClaimEnds p q made_before made faults_before faults kept before after ended
-claim-ends p q made_before made faults_before faults kept before after start len runs ended h =
-    let T : Boot → Type 0 = λ b. ClaimOver (record p { boot = b }) q made_before made faults_before faults kept before after start len runs ended → ClaimEnds (record p { boot = b }) q made_before made faults_before faults kept before after ended in
-    let here : T before.boot = (λ x. claim-at made_before made faults_before faults kept p q before after start len runs ended x) in
+pub claim-steps : (p q : Progressed) (made_before made : List ModuleCall) (faults_before faults kept : ℕ) (before after : MemoryValue) (c : Command) (block : Option Block) (units : Option Units) (runs : List Units) (span : Option Taken) (ended : Stepped) → ClaimOver p q made_before made faults_before faults kept before after c block units runs span ended → Stepped_to p q made_before made faults_before faults kept before after
+claim-steps p q made_before made faults_before faults kept before after c block units runs span ended h =
+    let T : Boot → Type 0 = λ b. ClaimOver (record p { boot = b }) q made_before made faults_before faults kept before after c block units runs span ended → Stepped_to (record p { boot = b }) q made_before made faults_before faults kept before after in
+    let here : T before.boot = (λ x. claim-at made_before made faults_before faults kept p q before after c block units runs span ended x) in
     let there : T p.boot = subst T h.stands.stands.same here in
     there h
 
--- ---- an acceptance with no claim open
+-- ---- a step with no claim open
 
 -- how it ends, of a port that was asked for room
-pub record AcceptEnds (p q : Progressed) (made_before made made_then : List ModuleCall) (faults_before faults faults_then kept : ℕ) (before after : MemoryValue) (ended : Stepped) : Type 0 where
+pub record StepEnds (p q : Progressed) (made_before made made_then : List ModuleCall) (faults_before faults faults_then kept : ℕ) (before after : MemoryValue) (ended : Stepped) : Type 0 where
   pub stands : CourseStands q made_before made_then faults_before faults_then kept after
   pub event : ended ≡ stepped.Event → MakesIn (seen_with p made_before made faults_before faults) (seen_with q made_before made_then faults_before faults_then) before after
   pub blocked : ended ≡ stepped.Blocked
       → (seen_with q made_before made_then faults_before faults_then ≡ seen_with p made_before made faults_before faults) × RoomAlone before after × IsBlocked (seen_with p made_before made faults_before faults) before.entries
 
+-- nothing changed, and the processor is blocked
+pub record Waits (p q : Progressed) (made_before made : List ModuleCall) (faults_before faults : ℕ) (before after : MemoryValue) (ended : Stepped) : Type 0 where
+  pub is : ended ≡ stepped.Blocked
+  pub course : q ≡ p
+  pub memory : after ≡ before
+  pub blocked : IsBlocked (seen_with p made_before made faults_before faults) before.entries
+
+-- an entry is made, or the processor is blocked
+abbrev pub EndsEither : Progressed → Progressed → List ModuleCall → List ModuleCall → ℕ → ℕ → ℕ → MemoryValue → MemoryValue → Stepped → Type 0
+EndsEither p q made_before made faults_before faults kept before after ended =
+    ((ended ≡ stepped.Event) × Stepped_to p q made_before made faults_before faults kept before after) ⊎ Waits p q made_before made faults_before faults before after ended
+
 module _ (made_before made : List ModuleCall) (faults_before faults kept : ℕ) (p taken q : Progressed) (before between after : MemoryValue) (ended : Stepped) (stood : CourseStands taken made_before made faults_before faults kept between) (only : OnlyRoom p taken) (alone : RoomAlone before between) where
-  ends-from : ClaimEnds taken q made_before made faults_before faults kept between after ended → AcceptEnds p q made_before made made faults_before faults faults kept before after ended
+  pub ends-from : EndsEither taken q made_before made faults_before faults kept between after ended → StepEnds p q made_before made made faults_before faults faults kept before after ended
   ends-from (inl made_it) =
       let all = room-steps made_before made faults_before faults p taken q kept before between after only alone made_it.1 in
       record {
@@ -295,7 +336,7 @@ module _ (made_before made : List ModuleCall) (faults_before faults kept : ℕ) 
         event = λ _. all.makes;
         blocked = λ no. absurd (let both : stepped.Event ≡ stepped.Blocked = sym made_it.0 ∙ no in cc);
       }
-  ends-from (inr blocked) =
+  ends-from (inr w) =
       let S : Progressed → Type 0 = λ x. CourseStands x made_before made faults_before faults kept after in
       let A : MemoryValue → Type 0 = λ m. CourseStands taken made_before made faults_before faults kept m in
       let R : MemoryValue → Type 0 = λ m. RoomAlone before m in
@@ -304,31 +345,20 @@ module _ (made_before made : List ModuleCall) (faults_before faults kept : ℕ) 
       let B : Seen → Type 0 = λ c. IsBlocked c between.entries in
       let E : List Entry → Type 0 = λ es. IsBlocked (see p) es in
       record {
-        stands = subst S (sym blocked.1) (subst A (sym blocked.2) stood);
-        event = λ no. absurd (let both : stepped.Blocked ≡ stepped.Event = sym blocked.0 ∙ no in cc);
-        blocked = λ _. (ap see blocked.1 ∙ seen, subst R (sym blocked.2) alone, subst E alone.entries (subst B seen blocked.3));
+        stands = subst S (sym w.course) (subst A (sym w.memory) stood);
+        event = λ no. absurd (let both : stepped.Blocked ≡ stepped.Event = sym w.is ∙ no in cc);
+        blocked = λ _. (ap see w.course ∙ seen, subst R (sym w.memory) alone, subst E alone.entries (subst B seen w.blocked));
       }
 
-pub accept-all : (made_before made made_then : List ModuleCall) (faults_before faults faults_then kept more : ℕ) (p taken q : Progressed) (before between after : MemoryValue) (start len : ℕ) (runs : List Units) (ended : Stepped)
-    → CourseStands p made_before made faults_before faults kept before → OnlyRoom p taken → RoomAlone before between → kept ≤ more → made_then ≡ made → faults_then ≡ faults
-    → p.out ≡ None → command_of p ≡ Some (command.Accept start len) → memory_range_refusal start len ≡ None
-    → Begins taken q between after start len runs ended → AreRunsAmong between (guarded_units between.boot start len) runs → sum_by (most_of between.boot) runs ≤ more
-    → AcceptEnds p q made_before made made_then faults_before faults faults_then more before after ended
-accept-all made_before made made_then faults_before faults faults_then kept more p taken q before between after start len runs ended s only alone le same_made same_faults rests now fine begins among owed =
-    let stood = room-course made_before made faults_before faults p taken kept more before between s only alone le in
-    let R : Progressed → Type 0 = λ x. x.out ≡ None in
-    let C : Progressed → Type 0 = λ x. command_of x ≡ Some (command.Accept start len) in
-    let O : Boot → Type 0 = λ b. sum_by (most_of b) runs ≤ more in
-    let h : ClaimOver taken q made_before made faults_before faults more between after start len runs ended = record {
-      stands = stood;
-      rests = subst R (sym only.0) rests;
-      now = subst C (sym only.0) now;
-      fine = fine;
-      begins = begins;
-      among = among;
-      owed = subst O stood.stands.same owed;
-    } in
-    let ends = ends-from made_before made faults_before faults more p taken q before between after ended stood only alone (claim-ends taken q made_before made faults_before faults more between after start len runs ended h) in
-    let M : List ModuleCall → Type 0 = λ m. AcceptEnds p q made_before made m faults_before faults faults more before after ended in
-    let F : ℕ → Type 0 = λ f. AcceptEnds p q made_before made made_then faults_before faults f more before after ended in
+-- a port that was asked for room, no more
+pub stands-then : (q : Progressed) (made_before made made_then : List ModuleCall) (faults_before faults faults_then kept : ℕ) (after : MemoryValue) → made_then ≡ made → faults_then ≡ faults → CourseStands q made_before made faults_before faults kept after → CourseStands q made_before made_then faults_before faults_then kept after
+stands-then q made_before made made_then faults_before faults faults_then kept after same_made same_faults stands =
+    let M : List ModuleCall → Type 0 = λ m. CourseStands q made_before m faults_before faults kept after in
+    let F : ℕ → Type 0 = λ f. CourseStands q made_before made_then faults_before f kept after in
+    subst F (sym same_faults) (subst M (sym same_made) stands)
+
+pub ends-then : (p q : Progressed) (made_before made made_then : List ModuleCall) (faults_before faults faults_then kept : ℕ) (before after : MemoryValue) (ended : Stepped) → made_then ≡ made → faults_then ≡ faults → StepEnds p q made_before made made faults_before faults faults kept before after ended → StepEnds p q made_before made made_then faults_before faults faults_then kept before after ended
+ends-then p q made_before made made_then faults_before faults faults_then kept before after ended same_made same_faults ends =
+    let M : List ModuleCall → Type 0 = λ m. StepEnds p q made_before made m faults_before faults faults kept before after ended in
+    let F : ℕ → Type 0 = λ f. StepEnds p q made_before made made_then faults_before faults f kept before after ended in
     subst F (sym same_faults) (subst M (sym same_made) ends)

@@ -1,33 +1,34 @@
-use Rattle.std.proofs.Common.{◌≡◌, ℕ, ◌+◌, ◌≤◌, ◌<◌, Bool, true, false, Option, None, Some, List, [], ◌∷◌, ◌++◌, refl, sym, ◌∙◌, ap, subst, arith, cond, length, map}
+use Rattle.std.proofs.Common.{◌≡◌, ℕ, ◌+◌, ◌≤◌, ◌<◌, true, false, Option, None, Some, List, [], ◌∷◌, ◌++◌, refl, sym, ◌∙◌, ap, subst, arith, cond, length, map}
 use Rattle.std.specs.Prelude.{is_some}
-use Rattle.std.specs.Option.{option_and_then}
 use Rattle.std.proofs.lemmas.Option.{slice_get_within}
 use Rattle.guest_base.specs.Counts.{Rose}
+use Rattle.guest_base.specs.declared.memory.Block.{Block}
 use Rattle.guest_base.specs.declared.memory.Units.{Units}
-use Rattle.event_core.specs.declared.boot.Boot.{Boot}
 use Rattle.event_core.specs.declared.command.Command.{Command}
-use Rattle.event_core.specs.declared.command.Command.TheVariants as command
 use Rattle.event_core.specs.declared.entry.Entry.{Entry}
+use Rattle.event_core.specs.declared.event.Event.TheVariants.{Got, Own as OwnEvent}
 use Rattle.event_core.specs.declared.module_call.ModuleCall.{ModuleCall}
 use Rattle.event_core.specs.declared.reply.Reply.{Reply}
-use Rattle.event_core.specs.declared.reply.Reply.TheVariants as reply
 use Rattle.event_core.specs.Calls.{calls_in}
 use Rattle.event_core.specs.Claims.{claim_of}
-use Rattle.event_core.specs.Own.{own_of, replied}
-use Rattle.event_core.specs.RangedScripts.{IsRanged}
-use Rattle.event_core.specs.Refusals.{refusal_of, refuse}
+use Rattle.event_core.specs.Own.{replied}
+use Rattle.block_laws.specs.BlockScripts.{IsOfBlocks}
+use Rattle.memory_core.specs.Owners.{is_owner}
 use Rattle.memory_core.specs.UnderLock.{unmoved}
 use Rattle.memory_core.specs.Value.{MemoryValue}
 use Rattle.page_module.specs.Spans.{Taken}
 use Rattle.guest_steps.specs.Replies.{is_module}
-use Rattle.guest_steps.specs.Seen.{Seen, Accepted, left_by}
+use Rattle.guest_steps.specs.Seen.{Seen, Accepted, left_by, need_for, steps_waiting}
 use Rattle.guest_steps.specs.Standing.{IsOut, PortTells, unreported}
+use Rattle.guest_steps.specs.Steps.{Makes, MakesIn, MakesOwn}
+use Rattle.guest_steps.specs.declared.processor.Need.TheVariants as need
 use Rattle.guest_steps.proofs.BeginningLemmas.{all-got}
-use Rattle.guest_steps.specs.Steps.{MakesIn, MakesOwn}
-use Rattle.guest_cpu.specs.Progressing.{Progressed, command_of, moved_in}
+use Rattle.guest_cpu.specs.Alone.{EndsAlone}
+use Rattle.guest_cpu.specs.Progressing.{Progressed, command_of, moved_in, own_in}
 use Rattle.guest_cpu.specs.Standing.{CourseStands, RunsStand, calls_owed, seen_with}
-use Rattle.guest_cpu.specs.Stepping.{Refuses, going_on, own_entry}
-use Rattle.guest_cpu.proofs.NextLemmas.{refused-next}
+use Rattle.guest_cpu.specs.Stepping.{going_on, own_entry}
+use Rattle.guest_cpu.proofs.AloneLemmas.{alone-sound}
+use Rattle.guest_cpu.proofs.NextLemmas.{alone-next}
 use Rattle.guest_cpu.proofs.StandLemmas.{made-stands}
 use Rattle.guest_cpu.proofs.ToldLemmas.{less-replied, made-reported, replied-push, told-push}
 
@@ -46,29 +47,6 @@ rests-free c memory None None is rests = is
 rests-free c memory None (Some told) is rests = absurd is
 rests-free c memory (Some span) told is rests = absurd (let no : Some span ≡ None = rests in cc)
 
--- the processor at rest
-pub out-none : (c : Seen) (memory : MemoryValue) (out : Option Taken) (done : Option Accepted) → out ≡ None → done ≡ None → claim_of c.boot memory.entries c.number ≡ None → IsOut c memory out done
-out-none c memory None None rests undone free = free
-out-none c memory None (Some told) rests undone free = absurd (let no : Some told ≡ None = undone in cc)
-out-none c memory (Some span) told rests undone free = absurd (let no : Some span ≡ None = rests in cc)
-
--- ---- refusals
-
-range-no-module : (a b : Bool) (r : Reply) → refuse reply.Zero a (refuse reply.Range b None) ≡ Some r → is_module (Some r) ≡ false
-range-no-module true b r is = ap is_module (sym is)
-range-no-module false true r is = ap is_module (sym is)
-range-no-module false false r is = absurd (let no : None ≡ Some r = is in cc)
-
-ranged-no-module : (boot : Boot) (own : _) (c : Command) (r : Reply) → IsRanged c → refusal_of boot own c ≡ Some r → is_module (Some r) ≡ false
-ranged-no-module boot own (command.Accept start len) r ranged is = range-no-module _ _ r is
-ranged-no-module boot own (command.Query start len) r ranged is = range-no-module _ _ r is
-ranged-no-module boot own c r ranged is = absurd ranged
-
--- a command that is refused
-refused-command : (boot : Boot) (own : _) (c : Option Command) (r : Reply) → option_and_then (refusal_of boot own) c ≡ Some r → (command : Command) × (c ≡ Some command) × (refusal_of boot own command ≡ Some r)
-refused-command boot own None r is = absurd (let no : None ≡ Some r = is in cc)
-refused-command boot own (Some c) r is = (c, refl, is)
-
 module _ (made_before made : List ModuleCall) (faults_before faults : ℕ) where
   -- what contracts see of it
   abbrev see : Progressed → Seen
@@ -85,13 +63,14 @@ module _ (made_before made : List ModuleCall) (faults_before faults : ℕ) where
     stopped = tt;
   }
 
-  -- a processor that made an entry stands behind it
+  -- a processor that made an entry stands behind it; a block that it got had no owner
   pub made-course : (p : Progressed) (e : Entry) (out : Option Taken) (runs : List Units) (room kept : ℕ) (before after : MemoryValue) → CourseStands p made_before made faults_before faults kept before
-      → MakesIn (see p) (see (going_on p e out runs room)) before after → IsOut (see (going_on p e out runs room)) after out None → RunsStand (going_on p e out runs room) after → calls_owed p.boot None runs ≤ kept
+      → (makes : MakesIn (see p) (see (going_on p e out runs room)) before after) → ((got : Block) → makes.entry.event ≡ Got got → is_owner before.entries p.number got ≡ false)
+      → IsOut (see (going_on p e out runs room)) after out None → RunsStand (going_on p e out runs room) after → calls_owed p.boot None runs ≤ kept
       → calls_in e.event ≡ unreported p.done → (is_module e.reply ≡ true → Rose faults_before faults)
       → CourseStands (going_on p e out runs room) made_before made faults_before faults kept after
-  made-course p e out runs room kept before after s makes is_out runs_stand owed is rose = record {
-    stands = made-stands (see p) (see (going_on p e out runs room)) before after s.stands makes is_out (port-push p e out runs room s.stands.port is rose);
+  made-course p e out runs room kept before after s makes nobodys is_out runs_stand owed is rose = record {
+    stands = made-stands (see p) (see (going_on p e out runs room)) before after s.stands makes nobodys is_out (port-push p e out runs room s.stands.port is rose);
     runs = runs_stand;
     port = owed;
   }
@@ -106,8 +85,8 @@ module _ (made_before made : List ModuleCall) (faults_before faults : ℕ) where
   pub count-replied : (p : Progressed) (e : Entry) (r : Reply) → e.reply ≡ Some r → replied (map unmoved (p.entries ++ e ∷ [])) ≡ replied (moved_in p) + 1
   count-replied p e r is = replied-push p.entries e ∙ ap (λ (o : Option Reply). replied (moved_in p) + cond (is_some o) 1 0) is
 
-  pub ends-less : (p : Progressed) (e : Entry) (r : Reply) (c : Command) → command_of p ≡ Some c → e.reply ≡ Some r → left_by (length p.script) (replied (map unmoved (p.entries ++ e ∷ []))) None < left_by (length p.script) (replied (moved_in p)) None
-  ends-less p e r c now is =
+  pub replied-less : (p : Progressed) (e : Entry) (r : Reply) (c : Command) → command_of p ≡ Some c → e.reply ≡ Some r → left_by (length p.script) (replied (map unmoved (p.entries ++ e ∷ []))) None < left_by (length p.script) (replied (moved_in p)) None
+  replied-less p e r c now is =
       let more = slice_get_within p.script (replied (moved_in p)) c now in
       let less = less-replied (length p.script) (replied (moved_in p)) more in
       let same = ap (λ n. left_by (length p.script) n None) (count-replied p e r is) in
@@ -120,48 +99,51 @@ module _ (made_before made : List ModuleCall) (faults_before faults : ℕ) where
       with_out : Option Taken → Option Accepted → Progressed
       with_out o d = record p { entries = p.entries ++ e ∷ []; out = o; done = d; room = room }
 
-  -- ---- a refusal
+  -- ---- by the processor alone
 
-  pub refuses-own : (p q : Progressed) → Refuses p q → p.out ≡ None → p.done ≡ None → MakesOwn (see p) (see q)
-  refuses-own p q r rests undone =
-      let refused = refused-command p.boot (own_of p.script (moved_in p)) (command_of p) r.refusal r.is in
-      let e = own_entry p r.refusal in
-      let M : Progressed → Type 0 = λ x. MakesOwn (see p) (see x) in
-      let L : Option Taken → Type 0 = λ o. left_by (length p.script) (replied (map unmoved (p.entries ++ e ∷ []))) None < left_by (length p.script) (replied (moved_in p)) o in
-      subst M (sym (r.after ∙ same-course p e q.room rests undone)) (record {
-        entry = e;
-        place = refl;
-        makes = λ memory. record {
-          next = refused-next (see p) memory refused.0 r.refusal refused.1 refused.2;
+  -- no step is made in the memory's place
+  less-alone : (left before steps : ℕ) → left < before → left + steps < before + steps
+  less-alone left before steps less = omega (arith, less)
+
+  module _ (p q : Progressed) (ends : EndsAlone p q) (rests : p.out ≡ None) (undone : p.done ≡ None) (asks : need_for p.boot (own_in p) (Some ends.present) ≡ need.Own) where
+    abbrev e : Entry
+    e = own_entry p ends.told
+
+    abbrev then : Progressed
+    then = going_on p e None p.runs q.room
+
+    then-is : then ≡ q
+    then-is = sym (ends.after ∙ same-course p e q.room rests undone)
+
+    alone-makes : (memory : List Entry) → Makes (see p) (see then) memory e
+    alone-makes memory =
+        let L : Option Taken → Type 0 = λ o. left_by (length p.script) (replied (map unmoved (p.entries ++ e ∷ []))) None + steps_waiting p.boot memory < left_by (length p.script) (replied (moved_in p)) o + steps_waiting p.boot memory in
+        record {
+          next = alone-next (see p) memory ends.present ends.told ends.is asks ends.replies;
           entries = refl;
           same = record { boot = refl; number = refl; script = refl; made_before = refl; made = refl; faults_before = refl; faults = refl };
           done = refl;
-          less = subst L (sym rests) (ends-less p e r.refusal refused.0 refused.1 refl);
-        };
-      })
+          less = subst L (sym rests) (less-alone _ _ (steps_waiting p.boot memory) (replied-less p e ends.told ends.present ends.is refl));
+        }
 
-  pub refuses-course : (p q : Progressed) (kept : ℕ) (memory : MemoryValue) → Refuses p q → p.out ≡ None → CourseStands p made_before made faults_before faults kept memory → CourseStands q made_before made faults_before faults kept memory
-  refuses-course p q kept memory r rests s =
-      let undone = rests-undone (see p) memory p.out p.done s.stands.out rests in
-      let free = rests-free (see p) memory p.out p.done s.stands.out rests in
-      let refused = refused-command p.boot (own_of p.script (moved_in p)) (command_of p) r.refusal r.is in
-      let e = own_entry p r.refusal in
-      let no_module : is_module (Some r.refusal) ≡ false = ranged-no-module p.boot (own_of p.script (moved_in p)) refused.0 r.refusal (all-got IsRanged p.script (replied (moved_in p)) refused.0 s.stands.ranged refused.1) refused.2 in
-      let S : Progressed → Type 0 = λ x. CourseStands x made_before made faults_before faults kept memory in
-      let L : Option Taken → Type 0 = λ o. left_by (length p.script) (replied (map unmoved (p.entries ++ e ∷ []))) None < left_by (length p.script) (replied (moved_in p)) o in
-      let O : Option Accepted → Type 0 = λ d. calls_owed p.boot d p.runs ≤ kept in
-      subst S (sym (r.after ∙ same-course p e q.room rests undone)) (made-course p e None p.runs q.room kept memory memory s
-      (record {
-        entry = e;
-        makes = record {
-          next = refused-next (see p) memory.entries refused.0 r.refusal refused.1 refused.2;
+    pub alone-own : MakesOwn (see p) (see q)
+    alone-own =
+        let M : Progressed → Type 0 = λ x. MakesOwn (see p) (see x) in
+        subst M then-is (record { entry = e; place = refl; makes = alone-makes })
+
+    pub alone-course : (kept : ℕ) (memory : MemoryValue) → CourseStands p made_before made faults_before faults kept memory → CourseStands q made_before made faults_before faults kept memory
+    alone-course kept memory s =
+        let free = rests-free (see p) memory p.out p.done s.stands.out rests in
+        let sound = alone-sound p.boot (own_in p) ends.present ends.told (all-got IsOfBlocks p.script (replied (moved_in p)) ends.present s.stands.of_blocks ends.is) ends.replies in
+        let S : Progressed → Type 0 = λ x. CourseStands x made_before made faults_before faults kept memory in
+        let O : Option Accepted → Type 0 = λ d. calls_owed p.boot d p.runs ≤ kept in
+        subst S then-is (made-course p e None p.runs q.room kept memory memory s
+        (record {
+          entry = e;
+          makes = alone-makes memory.entries;
+          boot = refl;
           entries = refl;
-          same = record { boot = refl; number = refl; script = refl; made_before = refl; made = refl; faults_before = refl; faults = refl };
-          done = refl;
-          less = subst L (sym rests) (ends-less p e r.refusal refused.0 refused.1 refl);
-        };
-        boot = refl;
-        entries = refl;
-        others = record { handed = λ other differ. refl; states = λ other claim page differ has here. refl };
-      })
-      free (no-runs (going_on p e None p.runs q.room) memory free) (subst O undone s.port) (sym (ap unreported undone)) (λ is. absurd (let no : true ≡ false = sym is ∙ no_module in cc)))
+          others = record { handed = λ other differ. refl; states = λ other claim page differ has here. refl; waiting = omega arith };
+        })
+        (λ got is. absurd (let no : OwnEvent ≡ Got got = is in cc))
+        free (no-runs then memory free) (subst O undone s.port) (sym (ap unreported undone)) (λ is. absurd (let no : true ≡ false = sym is ∙ sound in cc)))

@@ -3,6 +3,8 @@ pub mod KeptLemmas
 pub mod ReportLemmas
 pub mod RoomLemmas
 pub mod StandLemmas
+pub mod OwnLemmas
+pub mod AloneLemmas
 pub mod NextLemmas
 pub mod ToldLemmas
 pub mod CourseLemmas
@@ -15,3 +17,8 @@ pub mod ReportedLemmas
 pub mod WorkLemmas
 pub mod Sent
 pub mod NothingLemmas
+pub mod ClaimNextLemmas
+pub mod AcceptLemmas
+pub mod AllocLemmas
+pub mod LookLemmas
+pub mod MayLemmas

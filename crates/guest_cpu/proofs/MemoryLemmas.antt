@@ -1,29 +1,45 @@
-use Rattle.std.proofs.Common.{◌≡◌, ℕ, ◌≤◌, ◌<◌, true, false, Option, None, Some, List, [], ◌∷◌, ◌++◌, refl, sym, ◌∙◌, ap, subst, arith, length, map}
+use Rattle.std.proofs.Common.{◌≡◌, ℕ, ◌+◌, ◌≤◌, ◌<◌, Bool, true, false, Option, None, Some, List, [], ◌∷◌, ◌++◌, refl, sym, ◌∙◌, ap, subst, arith, cond, length, map}
+use Rattle.std.specs.Prelude.{◌==◌}
+use Rattle.std.specs.Option.{ForSome}
+use Rattle.guest_base.specs.declared.memory.Block.{Block}
+use Rattle.guest_base.specs.declared.memory.Page.{Page}
+use Rattle.event_core.specs.declared.boot.Boot.{Boot}
+use Rattle.event_core.specs.declared.command.Command.{Command}
 use Rattle.event_core.specs.declared.command.Command.TheVariants as command
 use Rattle.event_core.specs.declared.entry.Entry.{Entry}
+use Rattle.event_core.specs.declared.event.Event.{Event}
 use Rattle.event_core.specs.declared.event.Event.TheVariants as event
 use Rattle.event_core.specs.declared.module_call.ModuleCall.{ModuleCall}
+use Rattle.event_core.specs.declared.reply.Reply.{Reply}
 use Rattle.event_core.specs.declared.reply.Reply.TheVariants as reply
-use Rattle.event_core.specs.Claims.{Claimed, claim_of}
+use Rattle.event_core.specs.Calls.{calls_in, calls_of}
+use Rattle.event_core.specs.Claims.{Claimed, claim_of, claim_step}
+use Rattle.event_core.specs.Holdings.{Holding, block_named}
 use Rattle.event_core.specs.MemoryRows.{some_unaccepted}
 use Rattle.event_core.specs.Own.{replied}
-use Rattle.event_core.specs.Refusals.{memory_range_refusal}
+use Rattle.event_core.specs.OwnRows.{found_at, page_behind}
 use Rattle.event_core.specs.Units.{guarded_units}
-use Rattle.memory_core.specs.Steps.{last_stamp}
+use Rattle.event_core.proofs.StandingLemmas.{claim_of-push}
+use Rattle.memory_core.specs.Owners.{is_owner}
 use Rattle.memory_core.specs.UnderLock.{unmoved}
 use Rattle.memory_core.specs.Value.{MemoryValue}
-use Rattle.memory_core.proofs.StepLemmas.{claims-asked}
+use Rattle.memory_core.specs.Waiting.{waiting_left}
 use Rattle.page_module.specs.Spans.{Taken}
-use Rattle.guest_steps.specs.Seen.{Seen, Accepted, left_by}
-use Rattle.guest_steps.specs.Standing.{unreported}
-use Rattle.guest_steps.specs.Steps.{MakesIn, RoomAlone}
-use Rattle.guest_cpu.specs.Made.{turn_of}
-use Rattle.guest_cpu.specs.Progressing.{Progressed, command_of, moved_in}
+use Rattle.guest_steps.specs.Replies.{is_module}
+use Rattle.guest_steps.specs.Seen.{Seen, Accepted, left_by, own_now, steps_waiting}
+use Rattle.guest_steps.specs.Standing.{OwnsHeld, unreported}
+use Rattle.guest_steps.specs.Steps.{IsNext, MakesIn, RoomAlone, memory_after, without_reply}
+use Rattle.guest_steps.proofs.AccountLemmas.{waiting-fewer}
+use Rattle.guest_steps.proofs.HeldLemmas.{named-owned}
+use Rattle.guest_cpu.specs.Blocks.{FreesNamed, StraysFrom}
+use Rattle.guest_cpu.specs.Progressing.{Progressed, command_of, moved_in, own_in}
+use Rattle.guest_cpu.specs.Resting.{StepsOn}
 use Rattle.guest_cpu.specs.Standing.{CourseStands, calls_owed, seen_with}
 use Rattle.guest_cpu.specs.Stepping.{Adds, OnlyRoom, going_on, memory_entry}
+use Rattle.guest_cpu.proofs.AloneLemmas.{load-outside}
 use Rattle.guest_cpu.proofs.RoomAloneLemmas.{makes-room, room-course, seen-room}
-use Rattle.guest_cpu.proofs.CourseLemmas.{ends-less, made-course, no-runs, rests-free, rests-undone, same-course}
-use Rattle.guest_cpu.proofs.NextLemmas.{query-next}
+use Rattle.guest_cpu.proofs.CourseLemmas.{made-course, no-runs, replied-less, rests-free, rests-undone, same-course}
+use Rattle.guest_cpu.proofs.NextLemmas.{free-next, query-next, stray-next}
 
 -- What steps of the memory make of a processor that stands.
 
@@ -31,6 +47,25 @@ use Rattle.guest_cpu.proofs.NextLemmas.{query-next}
 pub record Stepped_to (p q : Progressed) (made_before made : List ModuleCall) (faults_before faults kept : ℕ) (before after : MemoryValue) : Type 0 where
   pub makes : MakesIn (seen_with p made_before made faults_before faults) (seen_with q made_before made faults_before faults) before after
   pub stands : CourseStands q made_before made faults_before faults kept after
+
+-- an event with which a processor's claim stays as it is
+pub record LeavesClaim (what : Event) : Type 0 where
+  pub calls : calls_in what ≡ []
+  pub claim : (boot : Boot) (before : List ModuleCall) (claim : Option Claimed) → claim_step boot before claim what ≡ claim
+
+cond-same : {A : Type 0} (b : Bool) (x : A) → cond b x x ≡ x
+cond-same true x = refl
+cond-same false x = refl
+
+claim-kept : (boot : Boot) (memory : List Entry) (e : Entry) (cpu : ℕ) → LeavesClaim e.event → claim_of boot (memory ++ e ∷ []) cpu ≡ claim_of boot memory cpu
+claim-kept boot memory e cpu leaves =
+    claim_of-push boot memory e cpu
+    ∙ ap (λ (c : Option Claimed). cond (e.cpu.0 == cpu) c (claim_of boot memory cpu)) (leaves.claim boot (calls_of boot memory) (claim_of boot memory cpu))
+    ∙ cond-same (e.cpu.0 == cpu) (claim_of boot memory cpu)
+
+-- the block of a name is the processor's in the memory
+pub owns-named : (c : Seen) (memory : List Entry) (name : List ℕ) → OwnsHeld c memory → ForSome (block_named (own_now c) name) (λ (h : Holding). is_owner memory c.number h.block ≡ true)
+owns-named c memory name owns = λ h is. named-owned c memory owns name h is
 
 module _ (made_before made : List ModuleCall) (faults_before faults : ℕ) where
   abbrev see : Progressed → Seen
@@ -48,7 +83,7 @@ module _ (made_before made : List ModuleCall) (faults_before faults : ℕ) where
         stands = steps.stands;
       }
 
-  -- ---- a query
+  -- ---- a command that ends with one entry in the memory
 
   module _ (p : Progressed) (kept : ℕ) (before : MemoryValue) (s : CourseStands p made_before made faults_before faults kept before) (rests : p.out ≡ None) where
     undone : p.done ≡ None
@@ -60,45 +95,89 @@ module _ (made_before made : List ModuleCall) (faults_before faults : ℕ) where
     owed-at-rest : calls_owed p.boot None p.runs ≤ kept
     owed-at-rest = let O : Option Accepted → Type 0 = λ d. calls_owed p.boot d p.runs ≤ kept in subst O undone s.port
 
-    pub query-steps : (q : Progressed) (after : MemoryValue) (start len : ℕ) → command_of p ≡ Some (command.Query start len) → memory_range_refusal start len ≡ None
-        → (let found = some_unaccepted p.boot before.entries (guarded_units p.boot start len) in Adds p q before after (event.Asked found) (Some (reply.Query found)))
-        → q ≡ record p { entries = q.entries; room = q.room }
-        → StepsTo p q kept before after
-    query-steps q after start len now fine adds course =
-        let found = some_unaccepted p.boot before.entries (guarded_units p.boot start len) in
-        let e = memory_entry p before (event.Asked found) (Some (reply.Query found)) in
-        let G : List Entry → Progressed = λ es. record p { entries = es; room = q.room } in
-        let is : q ≡ going_on p e None p.runs q.room = course ∙ ap G adds.entries ∙ same-course made_before made faults_before faults p e q.room rests undone in
-        let Q : Progressed → Type 0 = λ x. StepsTo p x kept before after in
-        let L : Option Taken → Type 0 = λ o. left_by (length p.script) (replied (map unmoved (p.entries ++ e ∷ []))) None < left_by (length p.script) (replied (moved_in p)) o in
-        let still : claim_of p.boot after.entries p.number ≡ None = ap (λ (es : List Entry). claim_of p.boot es p.number) adds.memory ∙ ap (λ (f : ℕ → Option Claimed). f p.number) (claims-asked p.boot before.entries (turn_of p.number p.entries) (last_stamp before.entries) found) ∙ free in
-        let makes : MakesIn (see p) (see (going_on p e None p.runs q.room)) before after = record {
-          entry = e;
-          makes = record {
-            next = query-next (see p) before.entries start len fine now;
-            entries = refl;
-            same = record { boot = refl; number = refl; script = refl; made_before = refl; made = refl; faults_before = refl; faults = refl };
-            done = refl;
-            less = subst L (sym rests) (ends-less made_before made faults_before faults p e (reply.Query found) (command.Query start len) now refl);
-          };
-          boot = adds.same;
-          entries = adds.memory;
-          others = adds.others;
-        } in
-        subst Q (sym is) (record {
-          makes = makes;
-          stands = made-course made_before made faults_before faults p e None p.runs q.room kept before after s makes still (no-runs made_before made faults_before faults (going_on p e None p.runs q.room) after still) owed-at-rest (sym (ap unreported undone)) (λ no. absurd (let n : false ≡ true = no in cc));
-        })
+    module _ (q : Progressed) (after : MemoryValue) (c : Command) (what : Event) (told : Reply) (now : command_of p ≡ Some c) (adds : Adds p q before after what (Some told)) (course : q ≡ record p { entries = q.entries; room = q.room }) where
+      abbrev e : Entry
+      e = memory_entry p before what (Some told)
 
-  -- a query, with room taken before it
-  pub query-all : (p taken q : Progressed) (kept : ℕ) (before between after : MemoryValue) (start len : ℕ) → CourseStands p made_before made faults_before faults kept before → OnlyRoom p taken → RoomAlone before between
-      → p.out ≡ None → command_of p ≡ Some (command.Query start len) → memory_range_refusal start len ≡ None
-      → (let found = some_unaccepted taken.boot between.entries (guarded_units taken.boot start len) in Adds taken q between after (event.Asked found) (Some (reply.Query found)))
-      → q ≡ record taken { entries = q.entries; room = q.room }
-      → StepsTo p q kept before after
-  query-all p taken q kept before between after start len s only alone rests now fine adds course =
-      let R : Progressed → Type 0 = λ x. x.out ≡ None in
-      let C : Progressed → Type 0 = λ x. command_of x ≡ Some (command.Query start len) in
+      waits : waiting_left p.boot (memory_after before.entries e) ≤ waiting_left p.boot before.entries
+      waits =
+          let B : Boot → Type 0 = λ b. waiting_left b after.entries ≤ waiting_left b before.entries in
+          let E : List Entry → Type 0 = λ es. waiting_left p.boot es ≤ waiting_left p.boot before.entries in
+          subst E adds.memory (subst B s.stands.same adds.others.waiting)
+
+      lessens : (m n v w : ℕ) → m < n → v ≤ w → m + v < n + w
+      lessens m n v w less few = omega (arith, less, few)
+
+      pub one-steps : IsNext (see p) before.entries e → LeavesClaim what → is_module (Some told) ≡ false → ((got : Block) → what ≡ event.Got got → is_owner before.entries p.number got ≡ false) → StepsTo p q kept before after
+      one-steps next leaves sound nobodys =
+          let G : List Entry → Progressed = λ es. record p { entries = es; room = q.room } in
+          let is : q ≡ going_on p e None p.runs q.room = course ∙ ap G adds.entries ∙ same-course made_before made faults_before faults p e q.room rests undone in
+          let Q : Progressed → Type 0 = λ x. StepsTo p x kept before after in
+          let L : Option Taken → Type 0 = λ o. left_by (length p.script) (replied (map unmoved (p.entries ++ e ∷ []))) None + steps_waiting p.boot (memory_after before.entries e) < left_by (length p.script) (replied (moved_in p)) o + steps_waiting p.boot before.entries in
+          let still : claim_of p.boot after.entries p.number ≡ None = ap (λ (es : List Entry). claim_of p.boot es p.number) adds.memory ∙ claim-kept p.boot before.entries (without_reply e) p.number leaves ∙ free in
+          let makes : MakesIn (see p) (see (going_on p e None p.runs q.room)) before after = record {
+            entry = e;
+            makes = record {
+              next = next;
+              entries = refl;
+              same = record { boot = refl; number = refl; script = refl; made_before = refl; made = refl; faults_before = refl; faults = refl };
+              done = refl;
+              less = subst L (sym rests) (lessens _ _ _ _ (replied-less made_before made faults_before faults p e told c now refl) (waiting-fewer p.boot before.entries (memory_after before.entries e) waits));
+            };
+            boot = adds.same;
+            entries = adds.memory;
+            others = adds.others;
+          } in
+          subst Q (sym is) (record {
+            makes = makes;
+            stands = made-course made_before made faults_before faults p e None p.runs q.room kept before after s makes nobodys still
+                (no-runs made_before made faults_before faults (going_on p e None p.runs q.room) after still) owed-at-rest (leaves.calls ∙ sym (ap unreported undone)) (λ no. absurd (let n : false ≡ true = sym sound ∙ no in cc));
+          })
+
+  pub owns-taken : (p taken : Progressed) (kept : ℕ) (before between : MemoryValue) → CourseStands p made_before made faults_before faults kept before → OnlyRoom p taken → RoomAlone before between → (name : List ℕ)
+      → ForSome (block_named (own_in taken) name) (λ (h : Holding). is_owner between.entries taken.number h.block ≡ true)
+  owns-taken p taken kept before between s only alone name =
       let stood = room-course made_before made faults_before faults p taken kept kept before between s only alone (omega arith) in
-      room-steps p taken q kept before between after only alone
-      (query-steps taken kept between stood (subst R (sym only.0) rests) q after start len (subst C (sym only.0) now) fine adds course)
+      owns-named (see taken) between.entries name stood.stands.held
+
+  -- ---- with room taken before it
+
+  module _ (p taken q : Progressed) (kept : ℕ) (before between after : MemoryValue) (s : CourseStands p made_before made faults_before faults kept before) (only : OnlyRoom p taken) (alone : RoomAlone before between) (course : q ≡ record taken { entries = q.entries; room = q.room }) where
+    stood : CourseStands taken made_before made faults_before faults kept between
+    stood = room-course made_before made faults_before faults p taken kept kept before between s only alone (omega arith)
+
+    abbrev On : Command → Progressed → Type 0
+    On c x = StepsOn (see x) before c
+
+    on-taken : (c : Command) → StepsOn (see p) before c → StepsOn (see taken) before c
+    on-taken c on = subst (On c) (sym only.0) on
+
+    -- whether a range of memory has an unaccepted unit
+    pub query-all : (start len : ℕ) → StepsOn (see p) before (command.Query start len)
+        → (let found = some_unaccepted taken.boot between.entries (guarded_units taken.boot start len) in Adds taken q between after (event.Asked found) (Some (reply.Query found)))
+        → StepsTo p q kept before after
+    query-all start len on adds =
+        let t = on-taken (command.Query start len) on in
+        let found = some_unaccepted taken.boot between.entries (guarded_units taken.boot start len) in
+        room-steps p taken q kept before between after only alone
+        (one-steps taken kept between stood t.rests q after (command.Query start len) (event.Asked found) (reply.Query found) t.present adds course
+        (query-next (see taken) between.entries start len t.fine t.present) (record { calls = refl; claim = λ boot calls claim. refl }) refl (λ got is. absurd (let no : event.Asked found ≡ event.Got got = is in cc)))
+
+    -- a block is freed
+    pub free-all : (name : List ℕ) → StepsOn (see p) before (command.Free name) → FreesNamed taken q between after name → StepsTo p q kept before after
+    free-all name on f =
+        let t = on-taken (command.Free name) on in
+        room-steps p taken q kept before between after only alone
+        (one-steps taken kept between stood t.rests q after (command.Free name) (event.Freed f.h.block) reply.Done t.present f.adds course
+        (free-next (see taken) between.entries name f.h t.present t.fine f.named) (record { calls = refl; claim = λ boot calls claim. refl }) refl (λ got is. absurd (let no : event.Freed f.h.block ≡ event.Got got = is in cc)))
+
+    -- a load strays past its block
+    pub stray-all : (name : List ℕ) (off : ℕ) → StepsOn (see p) before (command.Load name off) → StraysFrom taken q between after name off → StepsTo p q kept before after
+    stray-all name off on f =
+        let t = on-taken (command.Load name off) on in
+        let page : Page = record { 0 = page_behind f.h.block } in
+        let B : Boot → Type 0 = λ b. found_at b between.entries (page_behind f.h.block) ≡ Some f.found in
+        room-steps p taken q kept before between after only alone
+        (one-steps taken kept between stood t.rests q after (command.Load name off) (event.Touched page f.found) _ t.present f.adds course
+        (stray-next (see taken) between.entries name off f.h f.found t.present t.fine f.named (load-outside (block_named (own_in taken) name) off f.h f.named t.need) (subst B stood.stands.same f.finds))
+        (record { calls = refl; claim = λ boot calls claim. refl }) refl (λ got is. absurd (let no : event.Touched page f.found ≡ event.Got got = is in cc)))

@@ -1,55 +1,103 @@
-use Rattle.std.proofs.Common.{◌≡◌, ℕ, ◌+◌, Option, None, Some, List, [], ◌∷◌, ◌++◌, refl, ◌∙◌, ap}
-use Rattle.std.specs.Option.{option_and_then}
+use Rattle.std.proofs.Common.{◌≡◌, ℕ, ◌+◌, ◌^◌, ◌<◌, Option, None, Some, List, [], ◌∷◌, ◌++◌, refl, ◌∙◌, ap, subst}
+use Rattle.std.specs.Prelude.{length, slice_index_or}
+use Rattle.std.proofs.lemmas.Option.{slice_get_read, slice_get_within}
 use Rattle.event_core.specs.declared.boot.Boot.{Boot}
 use Rattle.event_core.specs.declared.command.Command.{Command}
 use Rattle.event_core.specs.declared.entry.Entry.{Entry}
 use Rattle.event_core.specs.declared.entry.Turn.{Turn}
 use Rattle.event_core.specs.declared.entry.Place.TheVariants as place
 use Rattle.event_core.specs.declared.event.Event.TheVariants as event
+use Rattle.event_core.specs.declared.module_call.ModuleCall.{ModuleCall}
 use Rattle.event_core.specs.declared.reply.Reply.{Reply}
 use Rattle.event_core.specs.Holdings.{Own}
 use Rattle.event_core.specs.Legal.{greatest_stamp}
-use Rattle.event_core.specs.Own.{own_of}
+use Rattle.event_core.specs.Own.{replied}
 use Rattle.event_core.specs.Refusals.{refusal_of}
+use Rattle.memory_core.specs.Value.{MemoryValue}
 use Rattle.page_module.specs.Spans.{Taken}
-use Rattle.guest_steps.specs.Seen.{need_by, need_for, need_unless_refused}
+use Rattle.guest_steps.specs.Seen.{need_by, need_for, need_unless_refused, need_unrefused}
+use Rattle.guest_steps.specs.Steps.{stamp_before}
 use Rattle.guest_steps.specs.declared.processor.Need.{Need}
 use Rattle.guest_steps.specs.declared.processor.Need.TheVariants as need
+use Rattle.guest_cpu.specs.Alone.{EndsAlone, alone_reply}
 use Rattle.guest_cpu.specs.Made.{turn_of}
-use Rattle.guest_cpu.specs.Progressing.{Progressed, command_of, moved_in, need_in}
-use Rattle.guest_cpu.specs.Ranges.{refusal_in}
-use Rattle.guest_cpu.specs.Stepping.{Refuses, own_entry}
+use Rattle.guest_cpu.specs.Progressing.{Progressed, command_of, moved_in, need_in, own_in}
+use Rattle.guest_cpu.specs.Resting.{StepsOn}
+use Rattle.guest_cpu.specs.Standing.{seen_with}
+use Rattle.guest_cpu.specs.Stepping.{own_entry}
 
 -- What a need tells of the present command.
 
-refused-by : (r : Option Reply) → need_unless_refused r ≡ need.Own → (x : Reply) × (r ≡ Some x)
-refused-by (Some x) is = (x, refl)
-refused-by None is = absurd (let no : need.Memory ≡ need.Own = is in cc)
+-- a command that the processor ends alone
+pub record IsAlone (p : Progressed) : Type 0 where
+  pub rests : p.out ≡ None
+  pub present : Command
+  pub is : command_of p ≡ Some present
+  pub need : need_for p.boot (own_in p) (Some present) ≡ need.Own
 
-pub own-refused : (out : Option Taken) (boot : Boot) (own : Own) (command : Option Command) → need_by out (need_for boot own command) ≡ need.Own → (r : Reply) × (option_and_then (refusal_of boot own) command ≡ Some r)
-own-refused (Some span) boot own command is = absurd (let no : need.Memory ≡ need.Own = is in cc)
-own-refused None boot own None is = absurd (let no : need.Finished ≡ need.Own = is in cc)
-own-refused None boot own (Some c) is = refused-by (refusal_of boot own c) is
+alone-by : (out : Option Taken) (boot : Boot) (own : Own) (now : Option Command) → need_by out (need_for boot own now) ≡ need.Own → (out ≡ None) × (c : Command) × (now ≡ Some c) × (need_for boot own (Some c) ≡ need.Own)
+alone-by (Some span) boot own now is = absurd (let no : need.Memory ≡ need.Own = is in cc)
+alone-by None boot own None is = absurd (let no : need.Finished ≡ need.Own = is in cc)
+alone-by None boot own (Some c) is = (refl, c, refl, is)
 
-pub own-rests : (out : Option Taken) (at_rest : Need) → need_by out at_rest ≡ need.Own → out ≡ None
-own-rests None at_rest is = refl
-own-rests (Some span) at_rest is = absurd (let no : need.Memory ≡ need.Own = is in cc)
+pub is-alone : (p : Progressed) → need_in p ≡ need.Own → IsAlone p
+is-alone p is =
+    let r = alone-by p.out p.boot (own_in p) (command_of p) is in
+    record { rests = r.0; present = r.1; is = r.2; need = r.3 }
 
--- the refusal of a turn
-abbrev pub refused_at : Turn → ℕ → Option Reply → Entry
-refused_at turn clock reply = record { stamp = clock + 1; cpu = turn.cpu; cmd = turn.cmd; place = place.Own; event = event.Own; reply = reply }
+own-at-rest : (out : Option Taken) (n : Need) → need_by out n ≡ need.Own → n ≡ need.Own
+own-at-rest None n is = is
+own-at-rest (Some span) n is = absurd (let no : need.Memory ≡ need.Own = is in cc)
 
-pub refuses-made : (p : Progressed) (turn : Turn) (clock : ℕ) (told : Option Reply) (middle new : List Entry) (room : ℕ) → need_in p ≡ need.Own
-    → middle ≡ p.entries → new ≡ middle ++ refused_at turn clock told ∷ [] → turn ≡ turn_of p.number middle → clock ≡ greatest_stamp (moved_in p) → told ≡ refusal_in p
-    → Refuses p (record p { entries = new; room = room })
-refuses-made p turn clock told middle new room need same made is_turn is_clock is =
-    let r = own-refused p.out p.boot (own_of p.script (moved_in p)) (command_of p) need in
-    let entry : refused_at turn clock told ≡ own_entry p r.0 =
-    ap (λ (t : Turn). refused_at t clock told) (is_turn ∙ ap (turn_of p.number) same)
-    ∙ ap (λ (n : ℕ). refused_at (turn_of p.number p.entries) n told) is_clock
-    ∙ ap (λ (o : Option Reply). refused_at (turn_of p.number p.entries) (greatest_stamp (moved_in p)) o) (is ∙ r.1) in
-    let entries : new ≡ p.entries ++ own_entry p r.0 ∷ [] = made ∙ ap (λ (es : List Entry). es ++ refused_at turn clock told ∷ []) same ∙ ap (λ (e : Entry). p.entries ++ e ∷ []) entry in
-    record { refusal = r.0; is = r.1; after = ap (λ (es : List Entry). with_entries es) entries }
+pub alone-asks : (p : Progressed) (c : Command) → need_in p ≡ need.Own → command_of p ≡ Some c → need_for p.boot (own_in p) (Some c) ≡ need.Own
+alone-asks p c is now =
+    let N : Option Command → Type 0 = λ o. need_for p.boot (own_in p) o ≡ need.Own in
+    subst N now (own-at-rest p.out (need_for p.boot (own_in p) (command_of p)) is)
+
+-- the present command, as it was read
+pub read-present : (p : Progressed) (present read : Command) (number : ℕ) → command_of p ≡ Some present → number ≡ replied (moved_in p) → read ≡ slice_index_or p.script number read → command_of p ≡ Some read
+read-present p present read number now is got =
+    let within = slice_get_within p.script (replied (moved_in p)) present now in
+    slice_get_read p.script (length p.script) (replied (moved_in p)) read refl within (got ∙ ap (λ (n : ℕ). slice_index_or p.script n read) is)
+
+-- a command that isn't refused and needs the memory
+unrefused-by : (r : Option Reply) (n : Need) → need_unless_refused r n ≡ need.Memory → (r ≡ None) × (n ≡ need.Memory)
+unrefused-by (Some x) n is = absurd (let no : need.Own ≡ need.Memory = is in cc)
+unrefused-by None n is = (refl, is)
+
+at-rest-by : (out : Option Taken) (n : Need) → out ≡ None → need_by out n ≡ need.Memory → n ≡ need.Memory
+at-rest-by None n rests is = is
+at-rest-by (Some span) n rests is = absurd (let no : Some span ≡ None = rests in cc)
+
+pub memory-need : (boot : Boot) (own : Own) (c : Command) → need_for boot own (Some c) ≡ need.Memory → (refusal_of boot own c ≡ None) × (need_unrefused own c ≡ need.Memory)
+memory-need boot own c is = unrefused-by (refusal_of boot own c) (need_unrefused own c) is
+
+pub need-at-rest : (p : Progressed) (c : Command) → p.out ≡ None → command_of p ≡ Some c → need_in p ≡ need.Memory → need_for p.boot (own_in p) (Some c) ≡ need.Memory
+need-at-rest p c rests now is =
+    let N : Option Command → Type 0 = λ o. need_for p.boot (own_in p) o ≡ need.Memory in
+    subst N now (at-rest-by p.out (need_for p.boot (own_in p) (command_of p)) rests is)
+
+pub steps-on : (p : Progressed) (made_before made : List ModuleCall) (faults_before faults : ℕ) (memory : MemoryValue) (c : Command) → p.out ≡ None → command_of p ≡ Some c → need_in p ≡ need.Memory
+    → stamp_before (seen_with p made_before made faults_before faults) memory < 2 ^ 64 → StepsOn (seen_with p made_before made faults_before faults) memory c
+steps-on p made_before made faults_before faults memory c rests now is fresh =
+    let n = memory-need p.boot (own_in p) c (need-at-rest p c rests now is) in
+    record { rests = rests; present = now; fine = n.0; need = n.1; fresh = fresh }
+
+-- ---- the entry that the processor makes alone
+
+-- by its turn
+abbrev pub own_at : Turn → ℕ → Reply → Entry
+own_at turn clock told = record { stamp = clock + 1; cpu = turn.cpu; cmd = turn.cmd; place = place.Own; event = event.Own; reply = Some told }
+
+pub alone-made : (p : Progressed) (turn : Turn) (clock : ℕ) (c : Command) (told : Reply) (middle new : List Entry) (room : ℕ) → command_of p ≡ Some c → alone_reply p.boot (own_in p) c ≡ Some told
+    → middle ≡ p.entries → new ≡ middle ++ own_at turn clock told ∷ [] → turn ≡ turn_of p.number middle → clock ≡ greatest_stamp (moved_in p)
+    → EndsAlone p (record p { entries = new; room = room })
+alone-made p turn clock c told middle new room now is same made is_turn is_clock =
+    let entry : own_at turn clock told ≡ own_entry p told =
+    ap (λ (t : Turn). own_at t clock told) (is_turn ∙ ap (turn_of p.number) same)
+    ∙ ap (λ (n : ℕ). own_at (turn_of p.number p.entries) n told) is_clock in
+    let entries : new ≡ p.entries ++ own_entry p told ∷ [] = made ∙ ap (λ (es : List Entry). es ++ own_at turn clock told ∷ []) same ∙ ap (λ (e : Entry). p.entries ++ e ∷ []) entry in
+    record { present = c; is = now; told = told; replies = is; after = ap (λ (es : List Entry). with_entries es) entries }
   where
     with_entries : List Entry → Progressed
     with_entries es = record p { entries = es; room = room }

@@ -1,7 +1,8 @@
-use Rattle.std.proofs.Common.{◌≡◌, ℕ, ◌+◌, max, Bool, Option, None, Some, List, [], ◌∷◌, refl, sym, ◌∙◌, ap, subst, inl, inr, map, arith}
+use Rattle.std.proofs.Common.{◌≡◌, ℕ, ◌+◌, max, Bool, true, false, Option, None, Some, List, [], ◌∷◌, refl, sym, ◌∙◌, ap, subst, inl, inr, map, arith}
 use Rattle.std.specs.Prelude.{fold, is_none, slice_get, unwrap_or}
 use Rattle.std.specs.Option.{option_and_then, option_map}
-use Rattle.guest_base.specs.declared.memory.Units.{Units}
+use Rattle.guest_base.specs.declared.memory.Block.{Block}
+use Rattle.guest_base.specs.declared.memory.Page.{Page}
 use Rattle.event_core.specs.declared.boot.Boot.{Boot}
 use Rattle.event_core.specs.declared.command.Command.{Command}
 use Rattle.event_core.specs.declared.command.Command.TheVariants as command
@@ -10,32 +11,37 @@ use Rattle.event_core.specs.declared.entry.Place.TheVariants as place
 use Rattle.event_core.specs.declared.event.Event.{Event}
 use Rattle.event_core.specs.declared.event.Event.TheVariants as event
 use Rattle.event_core.specs.declared.module_call.ModuleCall.{ModuleCall}
+use Rattle.event_core.specs.declared.reply.Found.{Found}
 use Rattle.event_core.specs.declared.reply.Reply.{Reply}
 use Rattle.event_core.specs.declared.reply.Reply.TheVariants as reply
-use Rattle.event_core.specs.Acceptance.{stop_of}
-use Rattle.event_core.specs.Calls.{calls_in, calls_of}
-use Rattle.event_core.specs.Claims.{Claimed, claim_of, in_the_way}
-use Rattle.event_core.specs.Holdings.{Own}
+use Rattle.event_core.specs.Bytes.{row_of}
+use Rattle.event_core.specs.Calls.{calls_in}
+use Rattle.event_core.specs.Claims.{Claimed}
+use Rattle.event_core.specs.Holdings.{Holding, Own, block_named}
 use Rattle.event_core.specs.Legal.{CallsFit, greatest_stamp, place_of}
-use Rattle.event_core.specs.MemoryRows.{AcceptsUnits, cleared_by, next_run, report_event, run_of_claim, some_unaccepted}
+use Rattle.event_core.specs.MemoryRows.{report_event, some_unaccepted}
 use Rattle.event_core.specs.Moved.{Moved}
-use Rattle.event_core.specs.Next.{Step, accept_step, claim_reply, next_step, refused_or, report_reply, step_of, unrefused_step}
+use Rattle.event_core.specs.Next.{Step, load_step, next_step, refused_or, replied_by, step_of, stray_step, unrefused_step}
 use Rattle.event_core.specs.Own.{own_of, replied, script_of}
+use Rattle.event_core.specs.OwnRows.{found_at, is_inside, page_behind, strayed_bytes}
 use Rattle.event_core.specs.PoolBytes.{bytes_moved}
 use Rattle.event_core.specs.Refusals.{memory_range_refusal, refusal_of}
 use Rattle.event_core.specs.Units.{guarded_units}
 use Rattle.event_core.proofs.BlockingLemmas.{blocked-same}
 use Rattle.memory_core.specs.Steps.{last_stamp}
 use Rattle.memory_core.specs.UnderLock.{unmoved}
-use Rattle.guest_steps.specs.Seen.{Seen, own_moved, present_command}
+use Rattle.guest_steps.specs.Seen.{Seen, need_for, own_moved, own_now, present_command}
 use Rattle.guest_steps.specs.Steps.{HaveScript, IsNext}
+use Rattle.guest_steps.specs.declared.processor.Need.TheVariants as need
 use Rattle.guest_steps.proofs.TogetherLemmas.{entries-unmoved}
+use Rattle.guest_cpu.specs.Alone.{alone_reply}
+use Rattle.guest_cpu.proofs.AloneLemmas.{alone-step}
 
 -- What a processor's next entry is.
 
 -- the next step is that of the present command, whatever the other scripts
 pub next-is : (c : Seen) (scripts : List (List Command)) (there : List Moved) (calls : List ModuleCall) (command : Command) → HaveScript scripts c → present_command c ≡ Some command
-    → next_step c.boot scripts c.number (own_moved c) there calls ≡ step_of c.boot c.number (own_of c.script (own_moved c)) there command calls
+    → next_step c.boot scripts c.number (own_moved c) there calls ≡ step_of c.boot c.number (own_now c) there command calls
 next-is c scripts there calls command have now =
     let own = own_moved c in
     let at : Option (List Command) → Option Step = λ o. option_and_then (λ (x : Command). step_of c.boot c.number (own_of (unwrap_or o []) own) there x calls) (option_and_then (λ (s : List Command). slice_get s (replied own)) o) in
@@ -61,9 +67,13 @@ pub asked-moves : (found : Bool) → MovesNone (event.Asked found)
 unfolding bytes_moved
 asked-moves found boot script own there e is = rw is refl
 
-pub claim-moves : (units run : Option Units) → MovesNone (event.Claim None units run)
+pub freed-moves : (block : Block) → MovesNone (event.Freed block)
 unfolding bytes_moved
-claim-moves units run boot script own there e is = rw is refl
+freed-moves block boot script own there e is = rw is refl
+
+pub touched-moves : (page : Page) (found : Found) → MovesNone (event.Touched page found)
+unfolding bytes_moved
+touched-moves page found boot script own there e is = rw is refl
 
 pub report-moves : (boot' : Boot) (claim : Claimed) (calls : List ModuleCall) → MovesNone (report_event boot' claim calls)
 unfolding bytes_moved
@@ -83,15 +93,15 @@ entry_of_step c memory event reply = record {
 }
 
 -- a step that isn't refused, of the present command, is the processor's next entry
-pub memory-next : (c : Seen) (memory : List Entry) (command : Command) (event : Event) (reply : Option Reply) → present_command c ≡ Some command → ((own : Own) → refusal_of c.boot own command ≡ None)
-    → ((own : Own) → unrefused_step c.boot c.number own (map unmoved memory) command (calls_in event) ≡ Some (record { event = event; reply = reply }))
+pub memory-next : (c : Seen) (memory : List Entry) (command : Command) (event : Event) (reply : Option Reply) → present_command c ≡ Some command → refusal_of c.boot (own_now c) command ≡ None
+    → unrefused_step c.boot c.number (own_now c) (map unmoved memory) command (calls_in event) ≡ Some (record { event = event; reply = reply })
     → CallsFit c.boot memory event → place.Memory ≡ place_of c.boot event → MovesNone event
     → IsNext c memory (entry_of_step c memory event reply)
 memory-next c memory command event reply now fine steps fits place moves =
     let there = map unmoved memory in
-    let own = own_of c.script (own_moved c) in
+    let own = own_now c in
     let step : (scripts : List (List Command)) → HaveScript scripts c → next_step c.boot scripts c.number (own_moved c) there (calls_in event) ≡ Some (record { event = event; reply = reply }) =
-    (λ scripts have. next-is c scripts there (calls_in event) command have now ∙ ap (λ (r : Option Reply). refused_or r (unrefused_step c.boot c.number own there command (calls_in event))) (fine own) ∙ steps own) in
+    (λ scripts have. next-is c scripts there (calls_in event) command have now ∙ ap (λ (r : Option Reply). refused_or r (unrefused_step c.boot c.number own there command (calls_in event))) fine ∙ steps) in
     let F : List Entry → Type 0 = λ es. CallsFit c.boot es event in
     record {
       mine = refl;
@@ -104,62 +114,67 @@ memory-next c memory command event reply now fine steps fits place moves =
       busy = λ scripts have. sym (blocked-same c.boot scripts c.number (own_moved c) there (calls_in event)) ∙ ap (λ (s : Option Step). is_none s) (step scripts have);
     }
 
-module _ (c : Seen) (memory : List Entry) (start len : ℕ) (fine : memory_range_refusal start len ≡ None) where
-  pub query-next : present_command c ≡ Some (command.Query start len)
-      → (let found = some_unaccepted c.boot memory (guarded_units c.boot start len) in IsNext c memory (entry_of_step c memory (event.Asked found) (Some (reply.Query found))))
-  query-next now =
-      let found = some_unaccepted c.boot memory (guarded_units c.boot start len) in
-      let S : List Entry → Step = λ es. record { event = event.Asked (some_unaccepted c.boot es (guarded_units c.boot start len)); reply = Some (reply.Query (some_unaccepted c.boot es (guarded_units c.boot start len))) } in
-      memory-next c memory (command.Query start len) (event.Asked found) (Some (reply.Query found)) now (λ own. fine) (λ own. ap (λ (es : List Entry). Some (S es)) (entries-unmoved memory)) tt refl (asked-moves found)
+-- whether a range of memory has an unaccepted unit
+pub query-next : (c : Seen) (memory : List Entry) (start len : ℕ) → memory_range_refusal start len ≡ None → present_command c ≡ Some (command.Query start len)
+    → (let found = some_unaccepted c.boot memory (guarded_units c.boot start len) in IsNext c memory (entry_of_step c memory (event.Asked found) (Some (reply.Query found))))
+query-next c memory start len fine now =
+    let found = some_unaccepted c.boot memory (guarded_units c.boot start len) in
+    let S : List Entry → Step = λ es. record { event = event.Asked (some_unaccepted c.boot es (guarded_units c.boot start len)); reply = Some (reply.Query (some_unaccepted c.boot es (guarded_units c.boot start len))) } in
+    memory-next c memory (command.Query start len) (event.Asked found) (Some (reply.Query found)) now fine (ap (λ (es : List Entry). Some (S es)) (entries-unmoved memory)) tt refl (asked-moves found)
 
-  -- a claim that nothing is in the way of
-  pub claim-next : present_command c ≡ Some (command.Accept start len) → claim_of c.boot memory c.number ≡ None → in_the_way c.boot memory (guarded_units c.boot start len) ≡ None
-      → (let units = guarded_units c.boot start len in let run = run_of_claim c.boot memory units in IsNext c memory (entry_of_step c memory (event.Claim None units run) (claim_reply run)))
-  claim-next now free way =
-      let units = guarded_units c.boot start len in
-      let run = run_of_claim c.boot memory units in
-      let S : List Entry → Option Step = λ es. accept_step c.boot es (claim_of c.boot es c.number) units [] in
-      let W : Option ℕ → Option Event = λ w. elim w as (λ _. Option Event) [ None ↦ Some (event.Claim None units run) | Some _ ↦ None ] in
-      memory-next c memory (command.Accept start len) (event.Claim None units run) (claim_reply run) now (λ own. fine)
-      (λ own. ap S (entries-unmoved memory) ∙ ap (λ (claim : Option Claimed). accept_step c.boot memory claim units []) free
-      ∙ ap (λ (w : Option ℕ). option_map (λ (e : Event). let s : Step = record { event = e; reply = claim_reply run } in s) (W w)) way)
-      tt refl (claim-moves units run)
+-- a block is freed
+pub free-next : (c : Seen) (memory : List Entry) (name : List ℕ) (h : Holding) → present_command c ≡ Some (command.Free name) → refusal_of c.boot (own_now c) (command.Free name) ≡ None → block_named (own_now c) name ≡ Some h
+    → IsNext c memory (entry_of_step c memory (event.Freed h.block) (Some reply.Done))
+free-next c memory name h now fine named =
+    memory-next c memory (command.Free name) (event.Freed h.block) (Some reply.Done) now fine
+    (ap (option_and_then (λ (x : Holding). replied_by (event.Freed x.block) reply.Done)) named) tt refl (freed-moves h.block)
 
-  -- a report of the claim's run
-  pub report-next : (claim : Claimed) (calls : List ModuleCall) → present_command c ≡ Some (command.Accept start len) → claim_of c.boot memory c.number ≡ Some claim → AcceptsUnits c.boot (calls_of c.boot memory) claim.run calls
-      → IsNext c memory (entry_of_step c memory (report_event c.boot claim calls) (report_reply (stop_of calls) (next_run c.boot claim (stop_of calls)) (cleared_by c.boot memory claim calls)))
-  report-next claim calls now has accepts =
-      let units = guarded_units c.boot start len in
-      let S : List Entry → Option Step = λ es. accept_step c.boot es (claim_of c.boot es c.number) units calls in
-      memory-next c memory (command.Accept start len) (report_event c.boot claim calls) (report_reply (stop_of calls) (next_run c.boot claim (stop_of calls)) (cleared_by c.boot memory claim calls)) now (λ own. fine)
-      (λ own. ap S (entries-unmoved memory) ∙ ap (λ (claim : Option Claimed). accept_step c.boot memory claim units calls) has)
-      accepts refl (report-moves c.boot claim calls)
+-- a load that ends past its block
+load-step : (boot : Boot) (memory : List Entry) (h : Holding) (off : ℕ) → is_inside h.block off ≡ false → load_step boot memory h off ≡ stray_step boot memory h off
+load-step boot memory h off outside = ap by outside
+  where
+    by : Bool → Option Step
+    by b = elim b as (λ _. Option Step) [ true ↦ replied_by event.Own (reply.Loaded (row_of h.bytes off 8) None) | false ↦ stray_step boot memory h off ]
+
+pub stray-next : (c : Seen) (memory : List Entry) (name : List ℕ) (off : ℕ) (h : Holding) (found : Found) → present_command c ≡ Some (command.Load name off) → refusal_of c.boot (own_now c) (command.Load name off) ≡ None
+    → block_named (own_now c) name ≡ Some h → is_inside h.block off ≡ false → found_at c.boot memory (page_behind h.block) ≡ Some found
+    → (let page : Page = record { 0 = page_behind h.block } in IsNext c memory (entry_of_step c memory (event.Touched page found) (Some (reply.Loaded (strayed_bytes h off) (Some found)))))
+stray-next c memory name off h found now fine named outside is =
+    let page : Page = record { 0 = page_behind h.block } in
+    let S : Found → Step = λ f. record { event = event.Touched page f; reply = Some (reply.Loaded (strayed_bytes h off) (Some f)) } in
+    memory-next c memory (command.Load name off) (event.Touched page found) (Some (reply.Loaded (strayed_bytes h off) (Some found))) now fine
+    (ap (option_and_then (λ (x : Holding). load_step c.boot _ x off)) named
+    ∙ load-step c.boot _ h off outside
+    ∙ ap (λ (es : List Entry). stray_step c.boot es h off) (entries-unmoved memory)
+    ∙ ap (option_map S) is)
+    tt refl (touched-moves page found)
 
 -- ---- by the processor alone
 
-abbrev pub refused_entry : Seen → Reply → Entry
-refused_entry c refusal = record {
+abbrev pub alone_entry : Seen → Reply → Entry
+alone_entry c told = record {
   stamp = greatest_stamp (own_moved c) + 1;
   cpu = record { 0 = c.number };
   cmd = replied (own_moved c);
   place = place.Own;
   event = event.Own;
-  reply = Some refusal;
+  reply = Some told;
 }
 
-pub refused-next : (c : Seen) (memory : List Entry) (command : Command) (refusal : Reply) → present_command c ≡ Some command → refusal_of c.boot (own_of c.script (own_moved c)) command ≡ Some refusal
-    → IsNext c memory (refused_entry c refusal)
-refused-next c memory command refusal now is =
-    let own = own_of c.script (own_moved c) in
-    let step : (scripts : List (List Command)) (there : List Moved) → HaveScript scripts c → next_step c.boot scripts c.number (own_moved c) there [] ≡ Some (record { event = event.Own; reply = Some refusal }) =
-    (λ scripts there have. next-is c scripts there [] command have now ∙ ap (λ (r : Option Reply). refused_or r (unrefused_step c.boot c.number own there command [])) is) in
+-- a command that ends by the processor alone
+pub alone-next : (c : Seen) (memory : List Entry) (command : Command) (told : Reply) → present_command c ≡ Some command → need_for c.boot (own_now c) (Some command) ≡ need.Own → alone_reply c.boot (own_now c) command ≡ Some told
+    → IsNext c memory (alone_entry c told)
+alone-next c memory command told now asks is =
+    let own = own_now c in
+    let step : (scripts : List (List Command)) (there : List Moved) → HaveScript scripts c → next_step c.boot scripts c.number (own_moved c) there [] ≡ Some (record { event = event.Own; reply = Some told }) =
+    (λ scripts there have. next-is c scripts there [] command have now ∙ alone-step c.boot c.number own there command told asks is) in
     record {
       mine = refl;
       place = inr refl;
       follows = λ scripts have. record {
         over = record { number = refl; step = step scripts [] have; calls = tt; place = refl };
         stamp = max-zero (greatest_stamp (own_moved c));
-        bytes = own-moves c.boot (script_of scripts c.number) (own_of (script_of scripts c.number) (own_moved c)) [] (refused_entry c refusal) refl;
+        bytes = own-moves c.boot (script_of scripts c.number) (own_of (script_of scripts c.number) (own_moved c)) [] (alone_entry c told) refl;
       };
       busy = λ scripts have. ap (λ (s : Option Step). is_none s) (step scripts (map unmoved memory) have);
     }

@@ -1,11 +1,12 @@
 use Rattle.std.proofs.Common.{◌≡◌, ℕ, zero, suc, subst, ◌<◌, ◌≤◌, Bool, true, false, None, Some, [], ◌∷◌, refl, arith, lit<, lit≤}
 use Rattle.std.specs.Prelude.{All, length, nat_lt, slice_get, ◌&&◌}
 use borrow.Author.Tests.{ltb-true}
-use Rattle.guest_base.specs.declared.limits.TheConstants.{MAX_COMMANDS}
+use Rattle.guest_base.specs.declared.limits.TheConstants.{PAGE_END}
 use Rattle.std.proofs.lemmas.List.Elements.{All-nil, All-cons}
-use Rattle.event_core.specs.declared.boot.Boot.{Boot}
 use Rattle.event_core.specs.declared.command.Command.TheVariants as command
-use Rattle.event_core.specs.RangedScripts.{IsRanged}
+use Rattle.event_core.specs.Cut.{cut}
+use Rattle.event_core.specs.ReadableScript.{IsReadable, ReadableScript}
+use Rattle.block_laws.specs.BlockScripts.{IsOfBlocks}
 use Rattle.event_core.specs.Units.{bit_of}
 use Rattle.guest_base.specs.Search as Search
 use Rattle.memory_core.specs.Booted.{IsBooted}
@@ -14,11 +15,9 @@ use Rattle.guest_steps.specs.Running.{IsFresh}
 use Rattle.guest_steps.specs.Seen.{Seen, first_seen}
 use Rattle.guest_steps.specs.Standing.{Stands}
 use Rattle.guest_steps.proofs.BeginningLemmas.{beginning}
+use Rattle.guest_cpu.proofs.AloneLemmas.{any_boot as nothing}
 
 -- A boot without memory, before which a processor of one refused command stands.
-
-abbrev pub nothing : Boot
-nothing = record { ram = []; hosts = []; base = 0; unit = 2097152; bits = []; cpus = 1; slots = 0; areas = 1; pool = None; calls = [] }
 
 abbrev pub no_memory : MemoryValue
 no_memory = record { boot = nothing; entries = []; out = []; room = 0 }
@@ -48,15 +47,25 @@ nothing-booted = record {
 abbrev pub refused_seen : Seen
 refused_seen = first_seen nothing 0 (command.Accept 0 0 ∷ []) [] 0
 
-one-seen : (k : ℕ) (c : Seen) → slice_get (refused_seen ∷ []) k ≡ Some c → (c.number ≡ k) × (c.boot ≡ nothing) × All IsRanged c.script × (length c.script ≤ MAX_COMMANDS)
+pub one-of-blocks : All IsOfBlocks (command.Accept 0 0 ∷ [])
+one-of-blocks = All-cons IsOfBlocks (command.Accept 0 0) [] tt (All-nil IsOfBlocks)
+
+pub one-readable : ReadableScript (command.Accept 0 0 ∷ [])
+one-readable = record { few = lit≤ tt; each = All-cons IsReadable (command.Accept 0 0) [] (lit< tt, lit< tt) (All-nil IsReadable); named = lit≤ tt }
+
+one-seen : (k : ℕ) (c : Seen) → slice_get (refused_seen ∷ []) k ≡ Some c → (c.number ≡ k) × (c.boot ≡ nothing) × All IsOfBlocks c.script × ReadableScript c.script
 one-seen zero c is =
     let same : refused_seen ≡ c = got refused_seen c is in
-    let P : Seen → Type 0 = λ x. (x.number ≡ 0) × (x.boot ≡ nothing) × All IsRanged x.script × (length x.script ≤ MAX_COMMANDS) in
-    subst P same (refl, refl, All-cons IsRanged (command.Accept 0 0) [] tt (All-nil IsRanged), lit≤ tt)
+    let P : Seen → Type 0 = λ x. (x.number ≡ 0) × (x.boot ≡ nothing) × All IsOfBlocks x.script × ReadableScript x.script in
+    subst P same (refl, refl, one-of-blocks, one-readable)
   where
     got : (a b : Seen) → Some a ≡ Some b → a ≡ b
     got a b both = cc
 one-seen (suc k) c is = absurd (let no : None ≡ Some c = is in cc)
 
+no-cut : length (cut nothing) ≤ PAGE_END
+unfolding cut
+no-cut = lit≤ tt
+
 pub refused-stands : Stands refused_seen no_memory
-refused-stands = (((beginning nothing (refused_seen ∷ []) no_memory nothing-booted refl refl (record { fresh = All-cons IsFresh refused_seen [] refl (All-nil IsFresh); entries = refl; out = λ cpu. refl }) one-seen).each) 0 refused_seen refl).2
+refused-stands = (((beginning nothing (refused_seen ∷ []) no_memory nothing-booted no-cut refl refl (record { fresh = All-cons IsFresh refused_seen [] refl (All-nil IsFresh); entries = refl; out = λ cpu. refl }) one-seen).each) 0 refused_seen refl).2

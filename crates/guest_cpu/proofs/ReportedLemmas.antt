@@ -1,12 +1,14 @@
 use Rattle.std.proofs.Common.{◌≡◌, ◌≢◌, ℕ, ◌+◌, ◌≤◌, ◌<◌, true, false, Option, None, Some, List, [], ◌∷◌, ◌++◌, refl, sym, ◌∙◌, ap, subst, arith, append-nil, cond, length, map}
-use Rattle.std.specs.Prelude.{IfSome, drop, is_some, slice_get}
+use Rattle.std.specs.Prelude.{Bool, IfSome, drop, is_some, slice_get}
 use Rattle.std.proofs.lemmas.Option.{slice_get_within}
 use Rattle.std.proofs.lemmas.List.Elements.{All-nil}
 use Rattle.guest_base.specs.Counts.{Rose}
+use Rattle.guest_base.specs.declared.memory.Block.{Block}
 use Rattle.guest_base.specs.declared.memory.Page.{Page}
 use Rattle.guest_base.specs.declared.memory.Pages.{Pages}
 use Rattle.guest_base.specs.declared.memory.Units.{Units}
 use Rattle.event_core.specs.declared.boot.Boot.{Boot}
+use Rattle.event_core.specs.declared.command.Command.{Command}
 use Rattle.event_core.specs.declared.command.Command.TheVariants as command
 use Rattle.event_core.specs.declared.entry.Entry.{Entry}
 use Rattle.event_core.specs.declared.entry.Turn.{Turn}
@@ -19,7 +21,7 @@ use Rattle.event_core.specs.Acceptance.{stop_of}
 use Rattle.event_core.specs.Calls.{calls_of}
 use Rattle.event_core.specs.Claims.{Claimed, claim_of, claim_step, goes_on}
 use Rattle.event_core.specs.MemoryRows.{AcceptsUnits, cleared_by, next_run, report_event}
-use Rattle.event_core.specs.Next.{report_reply}
+use Rattle.event_core.specs.Next.{report_reply, stopped_reply}
 use Rattle.event_core.specs.Own.{replied}
 use Rattle.event_core.specs.Units.{bit_after, units_end}
 use Rattle.accept_sizes.specs.Ends.{stopped_at}
@@ -27,9 +29,11 @@ use Rattle.accept_sizes.specs.declared.accept.RunEnd.{RunEnd}
 use Rattle.memory_core.specs.Answers.{GoesOn, ReportedBy}
 use Rattle.memory_core.specs.Away.{BringsSince}
 use Rattle.memory_core.specs.Bitmaps.{AreRunsFrom}
+use Rattle.memory_core.specs.Owners.{is_owner}
 use Rattle.memory_core.specs.Steps.{last_stamp, pages_of}
 use Rattle.memory_core.specs.UnderLock.{unmoved}
 use Rattle.memory_core.specs.Value.{MemoryValue, Handed, handed_to}
+use Rattle.memory_core.specs.Waiting.{waiting_left}
 use Rattle.memory_core.specs.declared.memory.Reported.{Reported}
 use Rattle.memory_core.specs.declared.memory.Reported.TheVariants.{Next, Closed, Stopped}
 use Rattle.memory_core.proofs.ReportLemmas.{closes, continues, not-stopped, next_claim}
@@ -38,17 +42,19 @@ use Rattle.memory_core.proofs.UnitsLemmas.{first_run-facts}
 use Rattle.page_module.specs.Spans.{LieInMemory, Taken}
 use Rattle.page_module.specs.declared.ticket.Ticket.{Ticket}
 use Rattle.guest_steps.specs.Replies.{is_module}
-use Rattle.guest_steps.specs.Seen.{Seen, Accepted, left_by}
-use Rattle.guest_steps.specs.Standing.{Claiming, IsAsHanded, IsOut, StopTold, unreported}
-use Rattle.guest_steps.specs.Steps.{MakesIn}
-use Rattle.guest_cpu.specs.Made.{turn_of}
+use Rattle.guest_steps.specs.Seen.{Seen, Accepted, left_by, steps_waiting}
+use Rattle.guest_steps.specs.Standing.{Claiming, ClaimsFor, IsAsHanded, IsOut, StopTold, unreported}
+use Rattle.guest_steps.specs.Steps.{IsNext, MakesIn, memory_after}
+use Rattle.guest_steps.proofs.AccountLemmas.{again-less, waiting-fewer}
+use Rattle.guest_cpu.specs.Made.{entry_at, turn_of}
 use Rattle.guest_cpu.specs.Progressing.{Progressed, command_of, moved_in}
 use Rattle.guest_cpu.specs.Standing.{CourseStands, RunsAre, RunsStand, calls_owed, seen_with}
-use Rattle.guest_cpu.specs.Stepping.{Reportable, Reports, entry_at, first_of, going_on, memory_entry, reply_of_report, runs_with, span_of_report}
-use Rattle.guest_cpu.proofs.ClaimLemmas.{clock-low, same-claimed}
+use Rattle.guest_cpu.specs.Stepping.{Reportable, Reports, first_of, going_on, memory_entry, reply_of_report, runs_with, span_of_report}
+use Rattle.guest_cpu.specs.Wanting.{is_alloc}
+use Rattle.guest_cpu.proofs.ClaimLemmas.{clock-low, fine-behind, same-claimed}
+use Rattle.guest_cpu.proofs.ClaimNextLemmas.{report-next, told_by}
 use Rattle.guest_cpu.proofs.CourseLemmas.{made-course, no-runs}
 use Rattle.guest_cpu.proofs.MemoryLemmas.{Stepped_to}
-use Rattle.guest_cpu.proofs.NextLemmas.{report-next}
 use Rattle.guest_cpu.proofs.SpanLemmas.{pages-behind, pages-low, span-accepts}
 use Rattle.guest_cpu.proofs.ToldLemmas.{less-closed, less-next, replied-push}
 
@@ -99,15 +105,34 @@ stopped-none : (boot : Boot) (claim : Claimed) (stop : Option Page) → stop ≢
 stopped-none boot claim None some = absurd (some refl)
 stopped-none boot claim (Some page) some = refl
 
-stopped-module : (stop : Option Page) (next : Option Units) (cleared : ℕ) → stop ≢ None → report_reply stop next cleared ≡ Some reply.Module
-stopped-module None next cleared some = absurd (some refl)
-stopped-module (Some page) next cleared some = refl
+stopped-module : (for_block : Bool) (stop : Option Page) (next : Option Units) (cleared : ℕ) → stop ≢ None → told_by for_block stop next cleared ≡ Some reply.Module
+stopped-module for_block None next cleared some = absurd (some refl)
+stopped-module false (Some page) next cleared some = refl
+stopped-module true (Some page) next cleared some = refl
 
 -- a report is answered that the module failed only where it stopped
-module-stopped : (stop : Option Page) (next : Option Units) (cleared : ℕ) → is_module (report_reply stop next cleared) ≡ true → stop ≢ None
-module-stopped None None cleared is none = absurd (let no : false ≡ true = is in cc)
-module-stopped None (Some run) cleared is none = absurd (let no : false ≡ true = is in cc)
-module-stopped (Some page) next cleared is none = absurd (let no : Some page ≡ None = none in cc)
+module-stopped : (for_block : Bool) (stop : Option Page) (next : Option Units) (cleared : ℕ) → is_module (told_by for_block stop next cleared) ≡ true → stop ≢ None
+module-stopped true None next cleared is none = absurd (let no : false ≡ true = is in cc)
+module-stopped false None None cleared is none = absurd (let no : false ≡ true = is in cc)
+module-stopped false None (Some run) cleared is none = absurd (let no : false ≡ true = is in cc)
+module-stopped for_block (Some page) next cleared is none = absurd (let no : Some page ≡ None = none in cc)
+
+-- while runs are left it isn't answered
+open-untold : (for_block : Bool) (stop : Option Page) (next : Option Units) (cleared : ℕ) (run : Units) → stop ≡ None → next ≡ Some run → told_by for_block stop next cleared ≡ None
+open-untold true stop next cleared run whole is = ap stopped_reply whole
+open-untold false stop next cleared run whole is = ap (λ (s : Option Page). report_reply s next cleared) whole ∙ ap (λ (n : Option Units). report_reply None n cleared) is
+
+-- once none is left an acceptance is told the count, and an allocation nothing
+closed-told : (for_block : Bool) (stop : Option Page) (next : Option Units) (cleared count : ℕ) → stop ≡ None → next ≡ None → count ≡ cleared → told_by for_block stop next cleared ≡ reply_of_report for_block (Closed count)
+closed-told true stop next cleared count whole none is = ap stopped_reply whole
+closed-told false stop next cleared count whole none is =
+    ap (λ (s : Option Page). report_reply s next cleared) whole ∙ ap (λ (n : Option Units). report_reply None n cleared) none ∙ ap (λ (n : ℕ). Some (reply.Count n)) (sym is)
+
+-- a claim of an allocation is for a block
+for-a-block : (c : Command) (block : Option Block) → ClaimsFor c block → is_alloc (Some c) ≡ true → block ≢ None
+for-a-block (command.Alloc name order) block claims is = claims
+for-a-block (command.Accept start len) block claims is = absurd (let no : false ≡ true = is in cc)
+for-a-block _ block claims is = absurd claims
 
 module _ (made_before made : List ModuleCall) (faults_before faults kept : ℕ) (p0 q : Progressed) (before after : MemoryValue) (claim : Claimed) (span : Taken) (calls : List ModuleCall) (end : RunEnd) where
   abbrev p : Progressed
@@ -122,8 +147,11 @@ module _ (made_before made : List ModuleCall) (faults_before faults kept : ℕ) 
   abbrev cleared : ℕ
   cleared = cleared_by before.boot before.entries claim calls
 
+  abbrev for_block : Bool
+  for_block = is_alloc (command_of p0)
+
   abbrev told : Option Reply
-  told = report_reply (stop_of calls) next cleared
+  told = told_by for_block (stop_of calls) next cleared
 
   abbrev e : Entry
   e = memory_entry p before (report_event before.boot claim calls) told
@@ -163,24 +191,49 @@ module _ (made_before made : List ModuleCall) (faults_before faults kept : ℕ) 
     rose is =
         let S : Option Accepted → Type 0 = λ d. StopTold faults_before d faults in
         let stopped : StopTold faults_before (Some (accepted_by calls end)) faults = subst S h.done h.stands.stands.port.stopped in
-        stopped (λ none. module-stopped (stop_of calls) next cleared is (sym stop-is ∙ none))
+        stopped (λ none. module-stopped for_block (stop_of calls) next cleared is (sym stop-is ∙ none))
+
+    -- fewer steps are left, with those for the blocks that wait
+    abbrev LeftIn : Option Taken → Option Taken → Type 0
+    LeftIn out o = left_by (length p0.script) (replied (map unmoved (p0.entries ++ e ∷ []))) out + steps_waiting before.boot (memory_after before.entries e) < left_by (length p0.script) (replied (moved_in p0)) o + steps_waiting before.boot before.entries
+
+    abbrev left_behind : Option Taken → ℕ
+    left_behind out = left_by (length p0.script) (replied (map unmoved (p0.entries ++ e ∷ []))) out
+
+    abbrev left_before : ℕ
+    left_before = left_by (length p0.script) (replied (moved_in p0)) (Some span)
+
+    left-in : (out : Option Taken) → left_behind out + steps_waiting before.boot after.entries < left_before + steps_waiting before.boot before.entries → LeftIn out (Some span)
+    left-in out less =
+        let L : List Entry → Type 0 = λ es. left_behind out + steps_waiting before.boot es < left_before + steps_waiting before.boot before.entries in
+        subst L r.appends.entries less
+
+    no-more : steps_waiting before.boot after.entries ≤ steps_waiting before.boot before.entries
+    no-more = waiting-fewer before.boot before.entries after.entries r.others.waiting
+
+    next-is : IsNext (see p) before.entries e
+    next-is =
+        let N : Option Reply → Type 0 = λ o. IsNext (see p) before.entries (memory_entry p before (report_event before.boot claim calls) o) in
+        let same = ap (λ (oc : Option Command). told_by (is_alloc oc) (stop_of calls) next cleared) (sym h.claiming.present) in
+        subst N same (report-next (see p) before.entries h.claiming.command claim calls h.claiming.present h.claiming.fine h.claiming.claims h.claiming.claimed accepts)
+
+    nobodys : (got : Block) → e.event ≡ event.Got got → is_owner before.entries p0.number got ≡ false
+    nobodys got is = absurd (let no : report_event before.boot claim calls ≡ event.Got got = is in cc)
 
     -- behind it
-    finish : (out : Option Taken) (rs : List Units) → q ≡ going_on p e out rs q.room
-        → left_by (length p0.script) (replied (map unmoved (p0.entries ++ e ∷ []))) out < left_by (length p0.script) (replied (moved_in p0)) (Some span)
+    finish : (out : Option Taken) (rs : List Units) → q ≡ going_on p e out rs q.room → LeftIn out (Some span)
         → IsOut (see (going_on p e out rs q.room)) after out None → RunsStand (going_on p e out rs q.room) after → calls_owed before.boot None rs ≤ kept
         → Stepped_to p q made_before made faults_before faults kept before after
     finish out rs is less is_out stand owed =
         let Q : Progressed → Type 0 = λ x. Stepped_to p x made_before made faults_before faults kept before after in
-        let L : Option Taken → Type 0 = λ o. left_by (length p0.script) (replied (map unmoved (p0.entries ++ e ∷ []))) out < left_by (length p0.script) (replied (moved_in p0)) o in
         let makes : MakesIn (see p) (see (going_on p e out rs q.room)) before after = record {
           entry = e;
           makes = record {
-            next = report-next (see p) before.entries h.claiming.start h.claiming.len h.claiming.fine claim calls h.claiming.command h.claiming.claimed accepts;
+            next = next-is;
             entries = refl;
             same = record { boot = refl; number = refl; script = refl; made_before = refl; made = refl; faults_before = refl; faults = refl };
             done = refl;
-            less = subst L (sym h.out) less;
+            less = subst (LeftIn out) (sym h.out) less;
           };
           boot = r.appends.boot;
           entries = r.appends.entries;
@@ -188,23 +241,43 @@ module _ (made_before made : List ModuleCall) (faults_before faults kept : ℕ) 
         } in
         subst Q (sym is) (record {
           makes = makes;
-          stands = made-course made_before made faults_before faults p e out rs q.room kept before after h.stands makes is_out stand owed (sym (ap unreported h.done)) rose;
+          stands = made-course made_before made faults_before faults p e out rs q.room kept before after h.stands makes nobodys is_out stand owed (sym (ap unreported h.done)) rose;
         })
 
     count-by : (answer : Option Reply) → answer ≡ told → replied (map unmoved (p0.entries ++ e ∷ [])) ≡ replied (moved_in p0) + cond (is_some answer) 1 0
     count-by answer is = replied-push p0.entries e ∙ ap (λ (o : Option Reply). replied (moved_in p0) + cond (is_some o) 1 0) (sym is)
 
-    -- no run is left, or it stopped
-    closed-steps : (answer : Reply) → next ≡ None → told ≡ Some answer
-        → q ≡ going_on p (entry_at r.turned (event.Report r.run calls (stopped_at end) None) (Some answer)) None [] q.room
-        → Stepped_to p q made_before made faults_before faults kept before after
-    closed-steps answer none is course =
-        let same : q ≡ going_on p e None [] q.room = course ∙ ap (λ (x : Entry). let y : Progressed = going_on p x None [] q.room in y) (entry-is [] (Some answer) (sym none) (sym is)) in
-        let still : claim_of before.boot after.entries p0.number ≡ None = claim-is ∙ closes before.boot (calls_of before.boot before.entries) calls claim (stop_of calls) next none in
-        let count = count-by (Some answer) (sym is) in
+    count-open : told ≡ None → replied (map unmoved (p0.entries ++ e ∷ [])) ≡ replied (moved_in p0)
+    count-open none = count-by None (sym none) ∙ add-zero (replied (moved_in p0)) where
+      add-zero : (n : ℕ) → n + 0 ≡ n
+      add-zero n = omega arith
+
+    -- with a reply the command has ended
+    left-ended : (answer : Reply) → told ≡ Some answer → LeftIn None (Some span)
+    left-ended answer is =
+        let count = ap (λ n. left_by (length p0.script) n None) (count-by (Some answer) (sym is)) in
         let less = less-closed (length p0.script) (replied (moved_in p0)) span in
-        let by_count = ap (λ n. left_by (length p0.script) n None) count in
-        finish None [] same (omega (arith, less, by_count)) still (no-runs made_before made faults_before faults (going_on p e None [] q.room) after still) (omega arith)
+        let more = no-more in
+        left-in None (omega (arith, count, less, more))
+
+    left-closed : (b : Bool) → for_block ≡ b → stop_of calls ≡ None → next ≡ None → (claim.block ≢ None → waiting_left before.boot after.entries < waiting_left before.boot before.entries) → LeftIn None (Some span)
+    left-closed false is whole none pays = left-ended (reply.Count cleared) (ap (λ (b : Bool). told_by b (stop_of calls) next cleared) is ∙ closed-told false (stop_of calls) next cleared cleared whole none refl)
+    left-closed true is whole none pays =
+        let untold : told ≡ None = ap (λ (b : Bool). told_by b (stop_of calls) next cleared) is ∙ closed-told true (stop_of calls) next cleared cleared whole none refl in
+        let count = ap (λ n. left_by (length p0.script) n None) (count-open untold) in
+        let some = slice_get_within p0.script (replied (moved_in p0)) h.claiming.command h.claiming.present in
+        let fewer = pays (for-a-block h.claiming.command claim.block h.claiming.claims (ap is_alloc (sym h.claiming.present) ∙ is)) in
+        let less = again-less before.boot before.entries after.entries (length p0.script) (replied (moved_in p0)) span some fewer in
+        left-in None (omega (arith, count, less))
+
+    -- no run is left, or it stopped
+    closed-steps : (answer : Option Reply) → next ≡ None → told ≡ answer → LeftIn None (Some span)
+        → q ≡ going_on p (entry_at r.turned (event.Report r.run calls (stopped_at end) None) answer) None [] q.room
+        → Stepped_to p q made_before made faults_before faults kept before after
+    closed-steps answer none is less course =
+        let same : q ≡ going_on p e None [] q.room = course ∙ ap (λ (x : Entry). let y : Progressed = going_on p x None [] q.room in y) (entry-is [] answer (sym none) (sym is)) in
+        let still : claim_of before.boot after.entries p0.number ≡ None = claim-is ∙ closes before.boot (calls_of before.boot before.entries) calls claim (stop_of calls) next none in
+        finish None [] same less still (no-runs made_before made faults_before faults (going_on p e None [] q.room) after still) (omega arith)
 
     -- the claim goes on with its next run
     next-steps : (other : Taken) → GoesOn before after p0.number claim calls other
@@ -214,11 +287,11 @@ module _ (made_before made : List ModuleCall) (faults_before faults kept : ℕ) 
         let stop = not-stopped before.boot claim (stop_of calls) goes.run goes.next in
         let b = next-behind before.boot claim (stop_of calls) later goes.run runs-are.1 goes.next in
         let first : first_of later ≡ next = ap first_of b.are ∙ sym goes.next in
-        let open_still : told ≡ None = ap (λ (s : Option Page). report_reply s next cleared) stop ∙ ap (λ (n : Option Units). report_reply None n cleared) goes.next in
+        let open_still : told ≡ None = open-untold for_block (stop_of calls) next cleared goes.run stop goes.next in
         let same : q ≡ going_on p e (Some other) later q.room = course ∙ ap (λ (x : Entry). let y : Progressed = going_on p x (Some other) later q.room in y) (entry-is later None first (sym open_still)) in
         let claim' = next_claim before.boot (calls_of before.boot before.entries) calls claim goes.run in
         let claimed : claim_of before.boot after.entries p0.number ≡ Some claim' = claim-is ∙ continues before.boot (calls_of before.boot before.entries) calls claim (stop_of calls) next goes.run stop goes.next in
-        let count = count-by None (sym open_still) in
+        let count = count-open open_still in
         let size = h.stands.stands.booted.some in
         let some = h.claiming.some in
         let pages : span.ticket.pages ≡ pages_of before.boot claim.run = span-pages in
@@ -229,19 +302,19 @@ module _ (made_before made : List ModuleCall) (faults_before faults kept : ℕ) 
         let there_first = ap (λ (x : Pages). x.first) there in
         let less = less-next (length p0.script) (replied (moved_in p0)) span other (omega (arith, behind, here_first, there_first)) low in
         let by_count = ap (λ n. left_by (length p0.script) n (Some other)) count in
-        let zero = add-zero (replied (moved_in p0)) in
-        let by_zero = ap (λ n. left_by (length p0.script) n (Some other)) zero in
-        let now : command_of (going_on p e (Some other) later q.room) ≡ Some (command.Accept h.claiming.start h.claiming.len) = ap (slice_get p0.script) (count ∙ zero) ∙ h.claiming.command in
+        let more = no-more in
+        let left = left-in (Some other) (omega (arith, by_count, less, more)) in
+        let now : command_of (going_on p e (Some other) later q.room) ≡ Some h.claiming.command = ap (slice_get p0.script) count ∙ h.claiming.present in
         let claiming : Claiming (see (going_on p e (Some other) later q.room)) after claim' other = record {
           claimed = claimed;
           handed = record { ticket = other.ticket; room = goes.out.room };
           is_handed = goes.out.handed;
           ticket = refl;
           some = b.some;
-          start = h.claiming.start;
-          len = h.claiming.len;
-          command = now;
-          fine = h.claiming.fine;
+          command = h.claiming.command;
+          present = now;
+          fine = fine-behind before.boot p0.script p0.entries e h.claiming.command claim.block h.claiming.claims (λ name own. refl) open_still h.claiming.present h.claiming.fine;
+          claims = h.claiming.claims;
           clock = clock-low p0.entries before.entries after.entries e refl r.appends.entries;
         } in
         let handed : IsAsHanded after p0.number claim' other = record {
@@ -255,11 +328,8 @@ module _ (made_before made : List ModuleCall) (faults_before faults kept : ℕ) 
         let are : RunsAre before.boot claim' later = subst R (sym b.are) (refl, b.runs) in
         let stand : RunsStand (going_on p e (Some other) later q.room) after = (λ x has. (let C : Claimed → Type 0 = λ y. RunsAre before.boot y later in subst C (same-claimed (claim_of before.boot after.entries p0.number) claim' x claimed has) are)) in
         let O : Option Accepted → Type 0 = λ d. calls_owed before.boot d p0.runs ≤ kept in
-        finish (Some other) later same (omega (arith, less, by_count, by_zero)) (claim', claiming, handed) stand (subst O h.done h.stands.port)
+        finish (Some other) later same left (claim', claiming, handed) stand (subst O h.done h.stands.port)
       where
-        add-zero : (n : ℕ) → n + 0 ≡ n
-        add-zero n = omega arith
-
         same-span : span ≡ r.span
         same-span = let both : Some span ≡ Some r.span = sym h.out ∙ r.out in (let same : span ≡ r.span = cc in same)
 
@@ -270,13 +340,14 @@ module _ (made_before made : List ModuleCall) (faults_before faults kept : ℕ) 
         span-low = let L : Taken → Type 0 = λ s. LieInMemory s.ticket.pages in subst L (sym same-span) r.low
 
     by-answer : (reported : Reported) → ReportedBy before after (turn_of p0.number p0.entries) claim calls reported
-        → q ≡ going_on p (entry_at r.turned (event.Report r.run calls (stopped_at end) (first_of (runs_with (span_of_report reported) later))) (reply_of_report reported)) (span_of_report reported) (runs_with (span_of_report reported) later) q.room
+        → q ≡ going_on p (entry_at r.turned (event.Report r.run calls (stopped_at end) (first_of (runs_with (span_of_report reported) later))) (reply_of_report for_block reported)) (span_of_report reported) (runs_with (span_of_report reported) later) q.room
         → Stepped_to p q made_before made faults_before faults kept before after
     by-answer (Next other) by course = next-steps other by course
     by-answer (Closed count) by course =
-        closed-steps (reply.Count count) by.1
-        (ap (λ (s : Option Page). report_reply s next cleared) by.0 ∙ ap (λ (n : Option Units). report_reply None n cleared) by.1 ∙ ap (λ (n : ℕ). Some (reply.Count n)) (sym by.2)) course
-    by-answer Stopped by course = closed-steps reply.Module (stopped-none before.boot claim (stop_of calls) by.0) (stopped-module (stop_of calls) next cleared by.0) course
+        closed-steps (reply_of_report for_block (Closed count)) by.1 (closed-told for_block (stop_of calls) next cleared count by.0 by.1 by.2) (left-closed for_block refl by.0 by.1 by.4) course
+    by-answer Stopped by course =
+        let told_module = stopped-module for_block (stop_of calls) next cleared by.0 in
+        closed-steps (Some reply.Module) (stopped-none before.boot claim (stop_of calls) by.0) told_module (left-ended reply.Module told_module) course
 
     pub report-at : Stepped_to p q made_before made faults_before faults kept before after
     report-at = by-answer r.reported r.by r.course
@@ -328,8 +399,8 @@ worked-may p made_before made faults_before faults kept memory s is_out is_done 
     let claiming = at.1 in
     let boot = s.stands.same in
     let claimed : claim_of memory.boot memory.entries p.number ≡ Some at.0 = ap (λ (b : Boot). claim_of b memory.entries p.number) boot ∙ claiming.claimed in
-    let more = slice_get_within p.script (replied (moved_in p)) (command.Accept claiming.start claiming.len) claiming.command in
-    let few = s.stands.few in
+    let more = slice_get_within p.script (replied (moved_in p)) claiming.command claiming.present in
+    let few = s.stands.readable.few in
     let low = claiming.clock in
     let R : Boot → Type 0 = λ b. RunsAre b at.0 p.runs in
     let runs : RunsAre memory.boot at.0 p.runs = subst R (sym boot) (s.runs at.0 claiming.claimed) in

@@ -9,6 +9,7 @@ use Rattle.event_core.specs.Claims.{Claimed, claim_of}
 use Rattle.event_core.specs.MemoryRows.{page_state, pages_first, pages_count}
 use Rattle.memory_core.specs.Answers.{OthersKeep}
 use Rattle.memory_core.specs.Value.{MemoryValue, Handed}
+use Rattle.memory_core.specs.Waiting.{waiting_left}
 use Rattle.guest_steps.specs.Seen.{Seen}
 use Rattle.guest_steps.specs.Steps.{Makes, MakesIn, RoomAlone, memory_after}
 use Rattle.guest_steps.proofs.StepLemmas.{room-leaves}
@@ -49,9 +50,12 @@ others-room before taken after cpu alone o =
     let here : S taken.boot taken.entries = o.states in
     let B : Boot → Type 0 = λ b. S b taken.entries in
     let E : List Entry → Type 0 = λ es. S before.boot es in
+    let D : Boot → Type 0 = λ b. waiting_left b after.entries ≤ waiting_left b taken.entries in
+    let F : List Entry → Type 0 = λ es. waiting_left before.boot after.entries ≤ waiting_left before.boot es in
     record {
       handed = λ other differ. o.handed other differ ∙ ap (λ (out : List (Option Handed)). slice_index_or out other None) alone.out;
       states = subst E alone.entries (subst B alone.boot here);
+      waiting = subst F alone.entries (subst D alone.boot o.waiting);
     }
 
 pub makes-room : (old new : Seen) (before taken after : MemoryValue) → RoomAlone before taken → MakesIn old new taken after → MakesIn old new before after

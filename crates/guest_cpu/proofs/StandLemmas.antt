@@ -1,4 +1,4 @@
-use Rattle.std.proofs.Common.{◌≡◌, ◌⊎◌, ℕ, ◌≤◌, true, false, Some, List, [], ◌∷◌, ◌++◌, refl, sym, ◌∙◌, ap, subst, inl, inr, arith, map, append_assoc, append-nil, eq-eqb}
+use Rattle.std.proofs.Common.{◌≡◌, ◌⊎◌, ℕ, ◌+◌, ◌*◌, ◌≤◌, true, false, false, Some, List, [], ◌∷◌, ◌++◌, refl, sym, ◌∙◌, ap, subst, inl, inr, arith, map, append_assoc, append-nil, eq-eqb}
 use Rattle.std.specs.Prelude.{All, length, slice_get, ◌==◌}
 use Rattle.std.proofs.lemmas.Bool.{cases_Bool}
 use Rattle.std.proofs.lemmas.List.Elements.{All-push, All-weaker, filter-append}
@@ -11,18 +11,23 @@ use Rattle.event_core.specs.declared.entry.Place.TheVariants as place
 use Rattle.event_core.specs.Legal.{ComesBefore, at_place, greatest_stamp, same_place, stamp_of}
 use Rattle.event_core.specs.Locally.{FollowsLocally, Rising}
 use Rattle.event_core.specs.Moved.{Moved, entries_of}
-use Rattle.event_core.specs.RangedScripts.{IsRanged}
+use Rattle.event_core.specs.declared.event.Event.TheVariants.{Got}
+use Rattle.event_core.specs.ReadableScript.{ReadableScript}
 use Rattle.event_core.specs.Turns.{entries_by}
 use Rattle.event_core.proofs.RisingLemmas.{filter-at}
+use Rattle.block_laws.specs.BlockScripts.{IsOfBlocks}
+use Rattle.guest_base.specs.declared.memory.Block.{Block}
 use Rattle.memory_core.specs.Booted.{IsBooted}
+use Rattle.memory_core.specs.Owners.{is_owner}
 use Rattle.memory_core.specs.UnderLock.{unmoved}
 use Rattle.memory_core.specs.Value.{MemoryValue}
-use Rattle.guest_base.specs.declared.limits.TheConstants.{MAX_COMMANDS}
-use Rattle.guest_steps.specs.Seen.{Seen, own_moved}
-use Rattle.guest_steps.specs.Standing.{FollowsAll, IsOut, PortTells, Stands, StoodIn, StoodBehind}
+use Rattle.guest_base.specs.declared.limits.TheConstants.{PAGE_END}
+use Rattle.guest_steps.specs.Seen.{Seen, STEPS, own_moved, steps_left, steps_waiting}
+use Rattle.guest_steps.specs.Standing.{FollowsAll, IsOut, OwnsHeld, PortTells, Stands, StoodIn, StoodBehind}
 use Rattle.guest_steps.specs.Steps.{HaveScript, MakesIn, entries_there, memory_by, without_reply}
 use Rattle.guest_steps.proofs.AccountLemmas.{makes-spent}
 use Rattle.guest_steps.proofs.AmongLemmas.{alone, alone-has, stamps-below}
+use Rattle.guest_steps.proofs.HeldLemmas.{held-next}
 
 -- A processor stands behind an entry that it made.
 
@@ -141,17 +146,20 @@ module _ (old new : Seen) (before after : MemoryValue) (s : Stands old before) (
         ))
       ]
 
-  pub made-stands : IsOut new after new.out new.done → PortTells new → Stands new after
-  made-stands out port =
+  -- a block that was got had no owner
+  pub made-stands : ((block : Block) → m.entry.event ≡ Got block → is_owner before.entries old.number block ≡ false) → IsOut new after new.out new.done → PortTells new → Stands new after
+  made-stands nobodys out port =
       let same = m.makes.same in
       let B : Boot → Type 0 = λ b. IsBooted b in
-      let C : List Command → Type 0 = λ cs. All IsRanged cs in
-      let L : List Command → Type 0 = λ cs. length cs ≤ MAX_COMMANDS in
+      let C : List Command → Type 0 = λ cs. All IsOfBlocks cs in
+      let L : List Command → Type 0 = λ cs. ReadableScript cs in
       let N : ℕ → Type 0 = λ n. HasMine n new.entries after.entries in
       let M : List Entry → Type 0 = λ es. HasMine old.number es after.entries in
       let A : ℕ → Type 0 = λ n. All (λ (e : Entry). e.cpu.0 ≡ n) new.entries in
       let E : List Entry → Type 0 = λ es. All (λ (e : Entry). e.cpu.0 ≡ old.number) es in
       let R : List Entry → Type 0 = λ es. Rising es in
+      let H : List Entry → Type 0 = λ es. OwnsHeld new es in
+      let S : List Entry → Type 0 = λ es. length new.entries + steps_left new + steps_waiting new.boot es ≤ (length new.script + PAGE_END) * STEPS in
       let cpus = ap (λ (b : Boot). b.cpus) same.boot in
       let number = same.number in
       let low = s.cpu in
@@ -159,13 +167,14 @@ module _ (old new : Seen) (before after : MemoryValue) (s : Stands old before) (
         same = m.boot ∙ s.same ∙ sym same.boot;
         booted = subst B (sym same.boot) s.booted;
         cpu = omega (arith, cpus, number, low);
-        ranged = subst C (sym same.script) s.ranged;
-        few = subst L (sym same.script) s.few;
+        of_blocks = subst C (sym same.script) s.of_blocks;
+        readable = subst L (sym same.script) s.readable;
         mine = subst N (sym same.number) (subst M (sym made) (mine-push old.number old.entries before.entries after.entries m.entry m.makes.next.place m.makes.next.mine m.entries s.mine));
         named = subst A (sym same.number) (subst E (sym made) (All-push (λ (e : Entry). e.cpu.0 ≡ old.number) old.entries m.entry s.named m.makes.next.mine));
         rises = subst R (sym made) (rises-push old.entries (map unmoved (entries_there m.entry.place before.entries)) m.entry s.rises stamped);
         follows = follows-made;
+        held = subst H (sym m.entries) (held-next old new before.entries m.entry s.of_blocks s.held m.makes.next same.number same.script made nobodys);
         out = out;
         port = port;
-        spent = makes-spent old new before.entries m.entry m.makes s.spent;
+        spent = subst S (sym m.entries) (makes-spent old new before.entries m.entry m.makes s.spent);
       }

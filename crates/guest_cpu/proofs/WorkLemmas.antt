@@ -14,7 +14,7 @@ use Rattle.accept_sizes.specs.Room.{most_calls_of}
 use Rattle.memory_core.specs.Steps.{pages_of}
 use Rattle.memory_core.specs.Value.{MemoryValue}
 use Rattle.guest_steps.specs.Replies.{calls_reported}
-use Rattle.guest_steps.specs.Seen.{Accepted, STEPS, command_number, left_by}
+use Rattle.guest_steps.specs.Seen.{Accepted, STEPS, command_number, left_by, steps_waiting}
 use Rattle.guest_base.specs.declared.limits.TheConstants.{PAGE_END}
 use Rattle.guest_steps.specs.Standing.{Claiming, IsOut, StopTold, unreported}
 use Rattle.guest_cpu.specs.Kept.{most_of}
@@ -86,12 +86,13 @@ module _ (p q : Progressed) (made_before made made_then : List ModuleCall) (faul
           same = st.same;
           booted = st.booted;
           cpu = st.cpu;
-          ranged = st.ranged;
-          few = st.few;
+          of_blocks = st.of_blocks;
+          readable = st.readable;
           mine = st.mine;
           named = st.named;
           rises = st.rises;
           follows = st.follows;
+          held = record { owned = st.held.owned; differ = st.held.differ };
           out = out-on p.out p.done st.out;
           port = record {
             made = r.quiet.made ∙ t.made;
@@ -112,10 +113,10 @@ module _ (p q : Progressed) (made_before made made_then : List ModuleCall) (faul
         is_handed = c.is_handed;
         ticket = c.ticket;
         some = c.some;
-        start = c.start;
-        len = c.len;
         command = c.command;
+        present = c.present;
         fine = c.fine;
+        claims = c.claims;
         clock = c.clock;
       }
 
@@ -142,19 +143,20 @@ module _ (p q : Progressed) (made_before made made_then : List ModuleCall) (faul
       let owed : sum_by (most_of p.boot) p.runs ≤ kept = subst O is_done s.port in
       let room = a.by.room in
       let ticket = a.by.accepts.ticket in
-      let L : Option Taken → Type 0 = λ o. length p.entries + left_by (length p.script) (command_number (seen_with p made_before made faults_before faults)) o ≤ length p.script * STEPS in
-      let T : Ticket → Type 0 = λ x. length p.entries + ((length p.script - (command_number (seen_with p made_before made faults_before faults) + 1)) * STEPS + 1 + (PAGE_END - x.pages.first)) ≤ length p.script * STEPS in
+      let L : Option Taken → Type 0 = λ o. length p.entries + left_by (length p.script) (command_number (seen_with p made_before made faults_before faults)) o + steps_waiting p.boot memory.entries ≤ (length p.script + PAGE_END) * STEPS in
+      let T : Ticket → Type 0 = λ x. length p.entries + ((length p.script - (command_number (seen_with p made_before made faults_before faults) + 1)) * STEPS + 1 + (PAGE_END - x.pages.first)) + steps_waiting p.boot memory.entries ≤ (length p.script + PAGE_END) * STEPS in
       subst Q (sym a.course) (record {
         stands = record {
           same = st.same;
           booted = st.booted;
           cpu = st.cpu;
-          ranged = st.ranged;
-          few = st.few;
+          of_blocks = st.of_blocks;
+          readable = st.readable;
           mine = st.mine;
           named = st.named;
           rises = st.rises;
           follows = st.follows;
+          held = record { owned = st.held.owned; differ = st.held.differ };
           out = (
             out.0,
             record {
@@ -163,10 +165,10 @@ module _ (p q : Progressed) (made_before made made_then : List ModuleCall) (faul
               is_handed = c.is_handed;
               ticket = c.ticket ∙ sym ticket;
               some = c.some;
-              start = c.start;
-              len = c.len;
               command = c.command;
+              present = c.present;
               fine = c.fine;
+              claims = c.claims;
               clock = c.clock;
             },
             record {

@@ -5,7 +5,11 @@ use Rattle.event_core.specs.declared.boot.Boot.{Boot}
 use Rattle.event_core.specs.declared.command.Command.{Command}
 use Rattle.event_core.specs.declared.module_call.ModuleCall.{ModuleCall}
 use Rattle.event_core.specs.MemoryRows.{pages_count}
-use Rattle.event_core.specs.RangedScripts.{IsRanged}
+use Rattle.event_core.specs.Own.{own_of}
+use Rattle.event_core.specs.ReadableScript.{ReadableScript}
+use Rattle.block_laws.specs.BlockScripts.{IsOfBlocks}
+use Rattle.held_blocks.specs.Held.{Held, owned}
+use Rattle.memory_core.specs.UnderLock.{unmoved}
 use Rattle.page_module.specs.Spans.{LieInMemory, Taken}
 use Rattle.accept_sizes.specs.declared.accept.RunEnd.{RunEnd}
 use Rattle.accept_sizes.specs.Room.{most_calls_of}
@@ -67,12 +71,14 @@ abbrev pub RestsBare : Option OpenRun → List RunRoom → Type 0
 RestsBare None later = later ≡ []
 RestsBare (Some open_run) later = Unit {0}
 
--- What a processor keeps: the host records of its boot, and room for the reports of the runs of its
--- claim.
+-- What a processor keeps: the host records of its boot, the blocks that its entries tell of, and
+-- room for the reports of the runs of its claim.
 pub record Keeps (boot : Boot) (hosts : List HostRun) (script : List Command) (made : Made)
-    (open_run : Option OpenRun) (later : List RunRoom) : Type 0 where
+    (held : Held) (open_run : Option OpenRun) (later : List RunRoom) : Type 0 where
   pub same_hosts : hosts ≡ boot.hosts
-  pub ranged : All IsRanged script
+  pub of_blocks : All IsOfBlocks script
+  pub readable : ReadableScript script
+  pub holds : own_of script (map unmoved made.entries) ≡ owned held
   pub reports : length (runs_of open_run later) ≤ made.room
   pub rooms : All (HasRoom boot) later
   pub room : RoomOf boot open_run

@@ -1,10 +1,13 @@
 pub mod Made
 pub mod Progressing
 pub mod Kept
-pub mod Ranges
+pub mod Wanting
+pub mod Alone
 pub mod Stepping
 pub mod Rooms
 pub mod Working
 pub mod Standing
 pub mod Found
 pub mod Resting
+pub mod Looking
+pub mod Blocks

@@ -3,6 +3,7 @@ use Rattle.guest_base.specs.declared.memory.Units.{Units}
 use Rattle.event_core.specs.declared.boot.Boot.{Boot}
 use Rattle.event_core.specs.declared.command.Command.{Command}
 use Rattle.event_core.specs.declared.entry.Entry.{Entry}
+use Rattle.event_core.specs.Holdings.{Own}
 use Rattle.event_core.specs.Moved.{Moved}
 use Rattle.event_core.specs.Own.{own_of, replied}
 use Rattle.memory_core.specs.UnderLock.{unmoved}
@@ -42,10 +43,14 @@ first_progress boot number script room = record {
 abbrev pub moved_in : Progressed → List Moved
 moved_in p = map unmoved p.entries
 
+-- what it has, as its entries tell
+abbrev pub own_in : Progressed → Own
+own_in p = own_of p.script (moved_in p)
+
 -- its present command; none where all have their reply
 abbrev pub command_of : Progressed → Option Command
 command_of p = slice_get p.script (replied (moved_in p))
 
 -- what its next step needs
 abbrev pub need_in : Progressed → Need
-need_in p = need_by p.out (need_for p.boot (own_of p.script (moved_in p)) (command_of p))
+need_in p = need_by p.out (need_for p.boot (own_in p) (command_of p))

@@ -1,6 +1,5 @@
 use Rattle.std.specs.Prelude.{ℕ, List, Option, ◌≤◌, ◌<◌, All, length, sum_by}
 use Rattle.guest_base.specs.declared.memory.Units.{Units}
-use Rattle.event_core.specs.Units.{guarded_units}
 use Rattle.memory_core.specs.Steps.{unaccepted_count}
 use Rattle.memory_core.specs.Value.{MemoryValue}
 use Rattle.guest_cpu.specs.declared.progress.RunRoom.{RunRoom}
@@ -19,9 +18,8 @@ pub record RoomFor (memory : MemoryValue) (units : Option Units) (rooms : List R
 
 -- there is room for an acceptance until it closes: in the memory, for the processor's entries, and
 -- in its port
-pub record RoomTaken (p : Progressed) (memory : MemoryValue) (start len : ℕ)
+pub record RoomTaken (p : Progressed) (memory : MemoryValue) (units : Option Units)
     (rooms : List RunRoom) (port : ℕ) : Type 0 where
-  pub calls : RoomFor memory (guarded_units memory.boot start len) rooms port
+  pub calls : RoomFor memory units rooms port
   pub entries : length rooms < p.room
-  pub memory_room : unaccepted_count memory.boot memory.entries
-      (guarded_units memory.boot start len) < memory.room
+  pub memory_room : unaccepted_count memory.boot memory.entries units < memory.room

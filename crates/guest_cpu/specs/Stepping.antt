@@ -1,4 +1,5 @@
-use Rattle.std.specs.Prelude.{ℕ, List, [], ◌∷◌, ◌++◌, Option, None, Some, ◌≡◌, ◌≢◌, ◌+◌, ◌^◌, ◌≤◌, ◌<◌, drop, max}
+use Rattle.std.specs.Prelude.{ℕ, Bool, false, true, List, [], ◌∷◌, ◌++◌, Option, None, Some, ◌≡◌, ◌≢◌, ◌+◌, ◌^◌, ◌≤◌, ◌<◌, drop, max}
+use Rattle.guest_base.specs.declared.memory.Block.{Block}
 use Rattle.guest_base.specs.declared.memory.Units.{Units}
 use Rattle.event_core.specs.declared.entry.Entry.{Entry}
 use Rattle.event_core.specs.declared.entry.Place.TheVariants as place
@@ -12,7 +13,7 @@ use Rattle.event_core.specs.Acceptance.{stop_of}
 use Rattle.event_core.specs.Calls.{calls_of}
 use Rattle.event_core.specs.Claims.{Claimed, claim_of}
 use Rattle.event_core.specs.Legal.{greatest_stamp}
-use Rattle.event_core.specs.MemoryRows.{next_run, report_event}
+use Rattle.event_core.specs.MemoryRows.{next_run, report_event, run_of_claim}
 use Rattle.event_core.specs.Next.{claim_reply}
 use Rattle.event_core.specs.Own.{replied}
 use Rattle.event_core.specs.Units.{bit_after, guarded_units, units_end}
@@ -21,7 +22,7 @@ use Rattle.accept_sizes.specs.declared.accept.RunEnd.{RunEnd}
 use Rattle.memory_core.specs.Answers.{BegunBy, IsBlocked, OthersKeep, ReportedBy}
 use Rattle.memory_core.specs.Away.{MayReport}
 use Rattle.memory_core.specs.Bitmaps.{AreRunsFrom}
-use Rattle.memory_core.specs.Steps.{Appends, BringsTo, claim_of_units, last_stamp}
+use Rattle.memory_core.specs.Steps.{Appends, BringsTo, last_stamp}
 use Rattle.memory_core.specs.Value.{MemoryValue}
 use Rattle.memory_core.specs.declared.memory.Begin.{Begin}
 use Rattle.memory_core.specs.declared.memory.Begin.TheVariants.{Clear, Claimed as IsClaimed, Blocked}
@@ -31,9 +32,9 @@ use Rattle.page_module.specs.Spans.{LieInMemory, Taken}
 use Rattle.guest_steps.specs.Steps.{memory_after}
 use Rattle.guest_steps.specs.declared.processor.Stepped.{Stepped}
 use Rattle.guest_steps.specs.declared.processor.Stepped.TheVariants as stepped
-use Rattle.guest_cpu.specs.Made.{turn_of}
-use Rattle.guest_cpu.specs.Progressing.{Progressed, moved_in}
-use Rattle.guest_cpu.specs.Ranges.{refusal_in}
+use Rattle.guest_cpu.specs.Made.{entry_at, turn_of}
+use Rattle.guest_cpu.specs.Progressing.{Progressed, command_of, moved_in}
+use Rattle.guest_cpu.specs.Wanting.{is_alloc}
 
 -- What a step does to a processor's course.
 
@@ -53,13 +54,13 @@ OnlyRoom old new = (new ≡ record old { room = new.room }) × (old.room ≤ new
 
 -- an entry of the processor's present command that it makes by itself, and under the memory's lock
 abbrev pub own_entry : Progressed → Reply → Entry
-own_entry p refusal = record {
+own_entry p told = record {
   stamp = greatest_stamp (moved_in p) + 1;
   cpu = record { 0 = p.number };
   cmd = replied (moved_in p);
   place = place.Own;
   event = event.Own;
-  reply = Some refusal;
+  reply = Some told;
 }
 
 abbrev pub memory_entry : Progressed → MemoryValue → Event → Option Reply → Entry
@@ -71,15 +72,6 @@ memory_entry p memory event reply = record {
   event = event;
   reply = reply;
 }
-
--- the present command is refused by an entry
-pub record Refuses (old new : Progressed) : Type 0 where
-  pub refusal : Reply
-  pub is : refusal_in old ≡ Some refusal
-  pub after : new ≡ record old {
-    entries = old.entries ++ own_entry old refusal ∷ [];
-    room = new.room;
-  }
 
 -- a step of the memory made an entry with this event and this reply
 pub record Adds (old new : Progressed) (before after : MemoryValue) (event : Event)
@@ -108,17 +100,6 @@ abbrev pub first_of : List Units → Option Units
 first_of [] = None
 first_of (run ∷ later) = Some run
 
--- an entry under the memory's lock, by the turn behind it
-abbrev pub entry_at : Turn → Event → Option Reply → Entry
-entry_at turned event reply = record {
-  stamp = turned.clock;
-  cpu = turned.cpu;
-  cmd = turned.cmd;
-  place = place.Memory;
-  event = event;
-  reply = reply;
-}
-
 -- the course goes on behind an entry with these runs, of which the first is out in the span, if any
 abbrev pub going_on : Progressed → Entry → Option Taken → List Units → ℕ → Progressed
 going_on p entry span runs room = record p {
@@ -140,25 +121,34 @@ span_of_report (Next span) = Some span
 span_of_report (Closed count) = None
 span_of_report Stopped = None
 
--- the reply of a command whose claim was closed by a report
-abbrev pub reply_of_report : Reported → Option Reply
-reply_of_report (Next span) = None
-reply_of_report (Closed count) = Some (reply.Count count)
-reply_of_report Stopped = Some reply.Module
+-- the reply of a command whose claim was closed by a report: a claim for a block that wasn't
+-- stopped has none
+abbrev pub reply_of_report : Bool → Reported → Option Reply
+reply_of_report for_block (Next span) = None
+reply_of_report true (Closed count) = None
+reply_of_report false (Closed count) = Some (reply.Count count)
+reply_of_report for_block Stopped = Some reply.Module
 
-abbrev pub claim_made : Turn → Option Units → List Units → Entry
-claim_made turned units runs =
+-- the reply of a claim: one for a block has none
+abbrev pub reply_of_claim : Option Block → Option Units → Option Reply
+reply_of_claim None run = claim_reply run
+reply_of_claim (Some block) run = None
+
+abbrev pub claim_made : Turn → Option Block → Option Units → List Units → Entry
+claim_made turned block units runs =
     let run = first_of runs in
-    entry_at turned (event.Claim None units run) (claim_reply run)
+    entry_at turned (event.Claim block units run) (reply_of_claim block run)
 
 -- units were claimed, of which these are the unaccepted runs
-pub record ClaimMade (old new : Progressed) (before after : MemoryValue) (units : Option Units)
-    (span : Option Taken) (runs : List Units) (ended : Stepped) : Type 0 where
-  pub event : ended ≡ stepped.Event
+pub record ClaimMade (old new : Progressed) (before after : MemoryValue) (block : Option Block)
+    (units : Option Units) (span : Option Taken) (runs : List Units) (ended : Stepped)
+    : Type 0 where
+  pub is : ended ≡ stepped.Event
   pub turned : Turn
   pub appends :
-      Appends before after (turn_of old.number old.entries) turned (claim_of_units before units)
-  pub course : new ≡ going_on old (claim_made turned units (runs_with span runs)) span
+      Appends before after (turn_of old.number old.entries) turned
+      (event.Claim block units (run_of_claim before.boot before.entries units))
+  pub course : new ≡ going_on old (claim_made turned block units (runs_with span runs)) span
       (runs_with span runs) new.room
 
 -- a claim was begun: it is blocked, or made
@@ -169,7 +159,7 @@ pub record Begins (old new : Progressed) (before after : MemoryValue) (start len
       (guarded_units before.boot start len) begin
   pub blocked : IsBlocked begin
       → (ended ≡ stepped.Blocked) × (new ≡ old) × (after ≡ before)
-  pub made : ¬ IsBlocked begin → ClaimMade old new before after
+  pub made : ¬ IsBlocked begin → ClaimMade old new before after None
       (guarded_units before.boot start len) (span_of_claim begin) runs ended
   pub others : OthersKeep before after old.number
 
@@ -203,5 +193,6 @@ pub record Reports (old new : Progressed) (before after : MemoryValue) (claim : 
       let span = span_of_report reported in
       let later = runs_with span (drop 1 old.runs) in
       let event = event.Report run calls (stopped_at end) (first_of later) in
-      new ≡ going_on old (entry_at turned event (reply_of_report reported)) span later new.room
+      let reply = reply_of_report (is_alloc (command_of old)) reported in
+      new ≡ going_on old (entry_at turned event reply) span later new.room
   pub others : OthersKeep before after old.number

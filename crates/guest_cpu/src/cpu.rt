@@ -1,17 +1,18 @@
 //! A processor with its port.
 ghost use Rattle.std.specs.Prelude.{◌≡◌, ◌≢◌, ℕ, ◌≤◌, ◌<◌, ◌^◌, None, Some, All, length, OnOk, OnErr};
-ghost use Rattle.event_core.specs.declared.command.Command.TheVariants.{Accept, Query};
-ghost use Rattle.event_core.specs.RangedScripts.{IsRanged};
+ghost use Rattle.event_core.specs.declared.command.Command.TheVariants.{Accept, Alloc, Free, Load, Query};
+ghost use Rattle.event_core.specs.ReadableScript.{ReadableScript};
+ghost use Rattle.block_laws.specs.BlockScripts.{IsOfBlocks};
 ghost use Rattle.memory_core.specs.Value.{MemoryValue};
-ghost use Rattle.guest_steps.specs.Seen.{first_seen, present_command};
+ghost use Rattle.guest_steps.specs.Seen.{first_seen};
 ghost use Rattle.guest_steps.specs.Steps.{IsBlocked, IsWorked, MakesIn, RoomAlone};
-ghost use Rattle.guest_cpu.specs.Resting.{StepsAtRest};
+ghost use Rattle.guest_cpu.specs.Resting.{StepsOn};
 ghost use Rattle.guest_steps.specs.Standing.{Stands};
 
 use crate::progress::Progress;
-use crate::ranges::Ranged;
-use crate::room::{take_query_room, take_room};
-use event_core::{Boot, Entries, Hosts, NoRoom, Script};
+use crate::room::{take_entry_room, take_room};
+use crate::wanted::Wanted;
+use event_core::{Boot, Entries, Hosts, Name, NoRoom, Script};
 use guest_base::CpuNo;
 use guest_steps::{Need, Processor, Stepped};
 use memory_core::Memory;
@@ -43,7 +44,8 @@ impl<P: Port> Cpu<P> {
         port: P,
     ) -> Cpu<P>
         requires hosts { hosts ≡ boot.now.hosts }
-        requires ranged { All IsRanged script }
+        requires of_blocks { All IsOfBlocks script }
+        requires readable { ReadableScript script }
         ensures seen { seen_by P.made P.faults result
             ≡ first_seen boot.now number.0 script (P.made port) (P.faults port) }
         ensures stands { (memory : MemoryValue)
@@ -99,9 +101,8 @@ impl<P: Port> Cpu<P> {
         start: u64,
         len: u64,
     ) -> Result<Stepped, AllocError>
-        requires command { present_command (seen_by P.made P.faults self.old)
-            ≡ Some (Accept start len) }
-        requires steps { StepsAtRest (seen_by P.made P.faults self.old) memory.old start len }
+        requires steps { StepsOn (seen_by P.made P.faults self.old) memory.old
+            (Accept start len) }
         requires stands { CpuStands P.made P.faults P.room self.old memory.old }
         ensures stands { CpuStands P.made P.faults P.room self.new memory.new }
         ensures event { result ≡ Ok Stepped.Event
@@ -116,15 +117,11 @@ impl<P: Port> Cpu<P> {
             × RoomAlone memory.old memory.new) }
         ensures never_fails { P.never_fails self.old.port → P.never_fails self.new.port }
     {
-        let rooms = take_room(
-            alloc,
-            &mut self.port,
-            &mut self.progress,
-            memory,
-            start,
-            len,
-        )?;
-        Ok(self.progress.begin(memory, start, len, rooms))
+        let units = memory.claim_units(start, len);
+        let unaccepted = memory.unaccepted_units(start, len);
+        let Cpu { progress, port, .. } = self;
+        let rooms = take_room(alloc, port, progress, memory, units, unaccepted)?;
+        Ok(progress.begin(memory, start, len, rooms))
     }
 
     /// Tells whether a range of memory has an unaccepted unit.
@@ -135,9 +132,8 @@ impl<P: Port> Cpu<P> {
         start: u64,
         len: u64,
     ) -> Result<Stepped, AllocError>
-        requires command { present_command (seen_by P.made P.faults self.old)
-            ≡ Some (Query start len) }
-        requires steps { StepsAtRest (seen_by P.made P.faults self.old) memory.old start len }
+        requires steps { StepsOn (seen_by P.made P.faults self.old) memory.old
+            (Query start len) }
         requires stands { CpuStands P.made P.faults P.room self.old memory.old }
         ensures stands { CpuStands P.made P.faults P.room self.new memory.new }
         ensures event { OnOk result (MakesIn (seen_by P.made P.faults self.old)
@@ -148,8 +144,94 @@ impl<P: Port> Cpu<P> {
             × RoomAlone memory.old memory.new) }
         ensures port { self.new.port ≡ self.old.port }
     {
-        take_query_room(alloc, &mut self.progress, memory)?;
+        take_entry_room(alloc, &mut self.progress, memory)?;
         self.progress.query(memory, start, len);
+        Ok(Stepped::Event)
+    }
+}
+
+impl<P: Port> Cpu<P> {
+    ghost use Rattle.guest_cpu.specs.Standing.{CpuStands, seen_by};
+
+    /// Allocates a block of 2^`order` pages: takes a free one, or claims the lowest waiting one, with room taken for all its
+    /// unaccepted runs.
+    fn alloc(
+        &mut self,
+        alloc: Global,
+        memory: &mut Memory,
+        name: Name,
+        order: u32,
+    ) -> Result<Stepped, AllocError>
+        requires steps { StepsOn (seen_by P.made P.faults self.old) memory.old
+            (Alloc name order) }
+        requires stands { CpuStands P.made P.faults P.room self.old memory.old }
+        ensures stands { CpuStands P.made P.faults P.room self.new memory.new }
+        ensures event { result ≡ Ok Stepped.Event
+            → MakesIn (seen_by P.made P.faults self.old)
+            (seen_by P.made P.faults self.new) memory.old memory.new }
+        ensures blocked { result ≡ Ok Stepped.Blocked
+            → (seen_by P.made P.faults self.new ≡ seen_by P.made P.faults self.old)
+            × RoomAlone memory.old memory.new
+            × IsBlocked (seen_by P.made P.faults self.old) memory.old.entries }
+        ensures refused { OnErr result
+            ((seen_by P.made P.faults self.new ≡ seen_by P.made P.faults self.old)
+            × RoomAlone memory.old memory.new) }
+        ensures never_fails { P.never_fails self.old.port → P.never_fails self.new.port }
+    {
+        let units = memory.waiting_units();
+        let unaccepted = memory.unaccepted_waiting();
+        let Cpu { progress, port, .. } = self;
+        let rooms = take_room(alloc, port, progress, memory, units, unaccepted)?;
+        progress.look(alloc, memory, name, order, rooms)
+    }
+
+    /// Frees the block of a name.
+    fn free(
+        &mut self,
+        alloc: Global,
+        memory: &mut Memory,
+        name: Name,
+    ) -> Result<Stepped, AllocError>
+        requires steps { StepsOn (seen_by P.made P.faults self.old) memory.old
+            (Free name) }
+        requires stands { CpuStands P.made P.faults P.room self.old memory.old }
+        ensures stands { CpuStands P.made P.faults P.room self.new memory.new }
+        ensures event { OnOk result (MakesIn (seen_by P.made P.faults self.old)
+            (seen_by P.made P.faults self.new) memory.old memory.new) }
+        ensures blocked { result ≢ Ok Stepped.Blocked }
+        ensures refused { OnErr result
+            ((seen_by P.made P.faults self.new ≡ seen_by P.made P.faults self.old)
+            × RoomAlone memory.old memory.new) }
+        ensures port { self.new.port ≡ self.old.port }
+    {
+        take_entry_room(alloc, &mut self.progress, memory)?;
+        self.progress.free(memory, &name);
+        Ok(Stepped::Event)
+    }
+
+    /// Loads eight bytes from an offset in the block of a name on, which end past it.
+    fn stray(
+        &mut self,
+        alloc: Global,
+        memory: &mut Memory,
+        name: Name,
+        off: u64,
+    ) -> Result<Stepped, AllocError>
+        requires steps { StepsOn (seen_by P.made P.faults self.old) memory.old
+            (Load name off) }
+        requires stands { CpuStands P.made P.faults P.room self.old memory.old }
+        ensures stands { CpuStands P.made P.faults P.room self.new memory.new }
+        ensures event { OnOk result (MakesIn (seen_by P.made P.faults self.old)
+            (seen_by P.made P.faults self.new) memory.old memory.new) }
+        ensures blocked { result ≢ Ok Stepped.Blocked }
+        ensures refused { OnErr result
+            ((seen_by P.made P.faults self.new ≡ seen_by P.made P.faults self.old)
+            × RoomAlone memory.old memory.new) }
+        ensures port { self.new.port ≡ self.old.port }
+    {
+        take_entry_room(alloc, &mut self.progress, memory)?;
+        let bytes = self.progress.strayed(alloc, &name, off)?;
+        self.progress.stray(memory, &name, off, bytes);
         Ok(Stepped::Event)
     }
 }
@@ -181,10 +263,12 @@ impl<P: Port + Send> Processor for Cpu<P> {
         if stamp >= 1 << 64 {
             return Err(NoRoom::Worn(stamp));
         }
-        let stepped = match self.progress.present() {
-            Some(Ranged::Accept(start, len)) => self.accept(alloc, memory, start, len),
-            Some(Ranged::Query(start, len)) => self.query(alloc, memory, start, len),
-            None => unreachable!(),
+        let stepped = match self.progress.wanted() {
+            Wanted::Accept(start, len) => self.accept(alloc, memory, start, len),
+            Wanted::Query(start, len) => self.query(alloc, memory, start, len),
+            Wanted::Alloc(name, order) => self.alloc(alloc, memory, name, order),
+            Wanted::Free(name) => self.free(alloc, memory, name),
+            Wanted::Stray(name, off) => self.stray(alloc, memory, name, off),
         };
         match stepped {
             Ok(stepped) => Ok(stepped),
@@ -192,8 +276,8 @@ impl<P: Port + Send> Processor for Cpu<P> {
         }
     }
 
-    fn step_own(&mut self, _alloc: Global) -> Result<(), NoRoom> {
-        self.progress.refuse()
+    fn step_own(&mut self, alloc: Global) -> Result<(), NoRoom> {
+        self.progress.step_alone(alloc)
     }
 
     ghost told = { λ c memory s. s.stands };

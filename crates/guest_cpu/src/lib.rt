@@ -2,14 +2,16 @@
 
 #![tactic(auto)]
 
+mod alone;
 mod answers;
+mod blocks;
 mod cpu;
 mod made;
 mod progress;
-mod ranges;
 mod room;
 mod runs;
 mod steps;
+mod wanted;
 mod work;
 
 pub use cpu::Cpu;

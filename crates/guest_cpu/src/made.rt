@@ -4,7 +4,7 @@ ghost use Rattle.event_core.specs.Legal.{greatest_stamp};
 ghost use Rattle.event_core.specs.Own.{replied};
 ghost use Rattle.memory_core.specs.UnderLock.{unmoved};
 
-use event_core::{Entries, Entry, Turn};
+use event_core::{Entries, Entry, Event, Place, Reply, Turn};
 use guest_base::{CpuNo, Items};
 use std::alloc::{AllocError, Global};
 use std::marker::Model;
@@ -41,7 +41,7 @@ impl Model for MadeEntries {
 }
 
 impl MadeEntries {
-    ghost use Rattle.guest_cpu.specs.Made.{turn_of};
+    ghost use Rattle.guest_cpu.specs.Made.{entry_at, turn_of};
 
     /// No entries, and no room.
     pub(crate) fn new(alloc: Global) -> MadeEntries
@@ -101,6 +101,23 @@ impl MadeEntries {
         }
         self.clock = self.clock.max(entry.stamp);
         self.entries.push_reserved(entry);
+    }
+
+    /// Adds an entry under the memory's lock, by the turn behind it, in the room that was taken.
+    pub(crate) fn add_there(&mut self, turn: Turn, event: Event, reply: Option<Reply>)
+        requires { 0 < self.old.room }
+        ensures entries { self.new.entries
+            ≡ self.old.entries ++ entry_at turn event reply ∷ [] }
+        ensures room { self.old.room ≤ self.new.room + 1 }
+    {
+        self.add(Entry {
+            stamp: turn.clock,
+            cpu: turn.cpu,
+            cmd: turn.cmd,
+            place: Place::Memory,
+            event,
+            reply,
+        });
     }
 
     /// The entries.

@@ -5,6 +5,7 @@ use crate::made::MadeEntries;
 use accept_sizes::{CallLog, RunEnd};
 use event_core::{Boot, Entries, Hosts, Script};
 use guest_base::{CpuNo, Units};
+use held_blocks::HeldBlocks;
 use page_module::Span;
 use std::alloc::Global;
 use std::collections::VecDeque;
@@ -38,6 +39,8 @@ pub(crate) struct Progress {
     pub(crate) hosts: Hosts,
     pub(crate) script: Script,
     pub(crate) made: MadeEntries,
+    /// The blocks that it holds, by the replies so far.
+    pub(crate) held: HeldBlocks,
     /// The run that is out, with a claim open.
     pub(crate) open_run: Option<OpenRun>,
     /// The runs behind it.
@@ -62,11 +65,12 @@ impl Model for Progress {
     } };
 
     ghost invariant = { λ p.
-        Keeps p.boot.value p.hosts p.script p.made p.open_run p.later.items };
+        Keeps p.boot.value p.hosts p.script p.made p.held p.open_run p.later.items };
 }
 
 impl Progress {
-    ghost use Rattle.event_core.specs.RangedScripts.{IsRanged};
+    ghost use Rattle.block_laws.specs.BlockScripts.{IsOfBlocks};
+    ghost use Rattle.event_core.specs.ReadableScript.{ReadableScript};
     ghost use Rattle.guest_cpu.specs.Progressing.{first_progress};
 
     /// The progress of a processor that has made no entry.
@@ -78,7 +82,8 @@ impl Progress {
         script: Script,
     ) -> Progress
         requires hosts { hosts ≡ boot.now.hosts }
-        requires ranged { All IsRanged script }
+        requires of_blocks { All IsOfBlocks script }
+        requires readable { ReadableScript script }
         ensures { result ≡ first_progress boot.now number.0 script result.room }
     {
         Progress {
@@ -87,6 +92,7 @@ impl Progress {
             hosts,
             script,
             made: MadeEntries::new(alloc),
+            held: HeldBlocks::new(alloc),
             open_run: None,
             later: VecDeque::new(alloc),
         }
@@ -103,6 +109,7 @@ impl Progress {
             hosts: _,
             script,
             made,
+            held: _,
             open_run: _,
             later: _,
         } = self;

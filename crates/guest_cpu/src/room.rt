@@ -4,7 +4,7 @@ ghost use Rattle.std.specs.Option.{ForSome};
 ghost use Rattle.accept_sizes.specs.Room.{most_calls_of};
 ghost use Rattle.event_core.specs.MemoryRows.{pages_count};
 ghost use Rattle.event_core.specs.Units.{unit_pages};
-ghost use Rattle.memory_core.specs.Steps.{IsByteRange, last_stamp};
+ghost use Rattle.memory_core.specs.Steps.{last_stamp, unaccepted_count};
 ghost use Rattle.guest_steps.specs.Steps.{RoomAlone};
 ghost use Rattle.guest_cpu.specs.Kept.{HasRoom, most_of};
 ghost use Rattle.guest_cpu.specs.Rooms.{RoomFor, RoomTaken};
@@ -98,19 +98,21 @@ fn claim_room(alloc: Global, memory: &Memory, units: Option<Units>) -> Result<Cl
     }
 }
 
-/// Takes room for an acceptance of a range until it closes. Nothing else changes.
+/// Takes room for an acceptance of units, of which this many are unaccepted, until it closes. Nothing else changes.
 pub(crate) fn take_room<P: Port>(
     alloc: Global,
     port: &mut P,
     progress: &mut Progress,
     memory: &mut Memory,
-    start: u64,
-    len: u64,
+    units: Option<Units>,
+    unaccepted: u64,
 ) -> Result<VecDeque<RunRoom>, AllocError>
-    requires range { IsByteRange start len }
+    requires end { ForSome units (λ u. u.first + u.count < 2 ^ 64) }
+    requires unaccepted { unaccepted
+        ≡ unaccepted_count memory.old.boot memory.old.entries units }
     requires last { last_stamp memory.old.entries < 2 ^ 64 }
     ensures taken { IfOk result (λ rooms. RoomTaken progress.new memory.new
-        start len rooms.items (P.room port.new)) }
+        units rooms.items (P.room port.new)) }
     ensures progress { OnlyRoom progress.old progress.new }
     ensures memory { RoomAlone memory.old memory.new }
     ensures room { P.room port.old ≤ P.room port.new }
@@ -118,17 +120,15 @@ pub(crate) fn take_room<P: Port>(
     ensures faults { P.faults port.new ≡ P.faults port.old }
     ensures never_fails { P.never_fails port.old → P.never_fails port.new }
 {
-    let unaccepted = memory.unaccepted_units(start, len);
     reserve_memory(alloc, memory, unaccepted)?;
-    let units = memory.claim_units(start, len);
     let room = claim_room(alloc, memory, units)?;
     progress.reserve(room.rooms.len() as u64 + 1)?;
     port.reserve(alloc, room.calls)?;
     Ok(room.rooms)
 }
 
-/// Takes room for a query. Nothing else changes.
-pub(crate) fn take_query_room(
+/// Takes room for a step of one entry. Nothing else changes.
+pub(crate) fn take_entry_room(
     alloc: Global,
     progress: &mut Progress,
     memory: &mut Memory,

@@ -15,16 +15,16 @@ ghost use Rattle.accept_sizes.specs.declared.accept.RunEnd.{RunEnd};
 ghost use Rattle.memory_core.specs.Steps.{unaccepted_count};
 ghost use Rattle.guest_steps.specs.declared.processor.Need.TheVariants as need;
 ghost use Rattle.guest_cpu.specs.Progressing.{moved_in, command_of, need_in};
-ghost use Rattle.guest_cpu.specs.Ranges.{as_command, refusal_in};
+ghost use Rattle.guest_cpu.specs.Wanting.{as_command, is_alloc};
 ghost use Rattle.guest_cpu.specs.Kept.{HasRoom, runs_in};
-ghost use Rattle.guest_cpu.specs.Stepping.{Adds, AreRunsAmong, Begins, MayStep, OnlyRoom, Refuses, Reportable, Reports, claim_made, going_on, runs_with};
+ghost use Rattle.guest_cpu.specs.Stepping.{Adds, AreRunsAmong, Begins, MayStep, OnlyRoom, Reportable, Reports, claim_made, going_on, runs_with};
 
 use crate::answers::{after_report, reply_of_claim};
 use crate::progress::{Progress, RunRoom};
-use crate::ranges::Ranged;
 use crate::runs::{Worked, go_on, worked_run};
-use event_core::{Entry, Event, NoRoom, Place, Reply, Turn};
-use guest_base::Units;
+use crate::wanted::{Wanted, need_of};
+use event_core::{Command, Event, Reply, Turn};
+use guest_base::{Block, Units};
 use guest_steps::{Need, Stepped};
 use memory_core::{Begin, Memory, stopped_page};
 use page_module::Span;
@@ -32,26 +32,13 @@ use std::alloc::{AllocError, Global};
 use std::collections::VecDeque;
 
 impl Progress {
-    /// The present command; None where all have their reply.
-    pub(crate) fn present(&self) -> Option<Ranged>
-        ensures { command_of self.now ≡ option_map as_command result }
+    /// What the present command asks, which needs the memory.
+    pub(crate) fn wanted(&self) -> Wanted
+        requires rests { self.now.out ≡ None }
+        requires need { need_in self.now ≡ need.Memory }
+        ensures { command_of self.now ≡ Some (as_command result) }
     {
-        let number = self.made.replies();
-        if number < self.script.len() {
-            Some(Ranged::of(self.script.get(number)))
-        } else {
-            None
-        }
-    }
-
-    /// The refusal of the present command, if it is refused.
-    pub(crate) fn refusal(&self) -> Option<Reply>
-        ensures { result ≡ refusal_in self.now }
-    {
-        match self.present() {
-            Some(command) => command.refusal(),
-            None => None,
-        }
+        Wanted::of(&self.held, self.script.get(self.made.replies()))
     }
 
     /// What the next step needs.
@@ -61,12 +48,11 @@ impl Progress {
         if self.open_run.is_some() {
             return Need::Memory;
         }
-        match self.present() {
-            Some(command) => match command.refusal() {
-                Some(_) => Need::Own,
-                None => Need::Memory,
-            },
-            None => Need::Finished,
+        let number = self.made.replies();
+        if number < self.script.len() {
+            need_of(&self.held, self.script.get(number))
+        } else {
+            Need::Finished
         }
     }
 
@@ -92,37 +78,6 @@ impl Progress {
         self.made.reserve(count)
     }
 
-    /// Refuses the present command, which is refused.
-    pub(crate) fn refuse(&mut self) -> Result<(), NoRoom>
-        requires need { need_in self.old ≡ need.Own }
-        requires few { replied (moved_in self.old) < 2 ^ 32 }
-        ensures refuses { OnOk result (Refuses self.old self.new) }
-        ensures failed { OnErr result (OnlyRoom self.old self.new) }
-        ensures worn { (stamp : ℕ) → result ≡ Err (NoRoom.Worn stamp)
-            → (2 ^ 64 ≤ stamp) × (stamp ≡ greatest_stamp (moved_in self.old)) }
-        ensures worn_first { 2 ^ 64 ≤ greatest_stamp (moved_in self.old)
-            → result ≡ Err (NoRoom.Worn (greatest_stamp (moved_in self.old))) }
-    {
-        let clock = self.made.clock();
-        if clock >= 1 << 64 {
-            return Err(NoRoom::Worn(clock));
-        }
-        let refusal = self.refusal();
-        if self.made.reserve(1).is_err() {
-            return Err(NoRoom::NoMemory);
-        }
-        let turn = self.made.turn(self.number);
-        self.made.add(Entry {
-            stamp: clock + 1,
-            cpu: turn.cpu,
-            cmd: turn.cmd,
-            place: Place::Own,
-            event: Event::Own,
-            reply: refusal,
-        });
-        Ok(())
-    }
-
     /// Tells whether a range of memory has an unaccepted unit: the present command, for which there is room.
     pub(crate) fn query(&mut self, memory: &mut Memory, start: u64, len: u64)
         requires command { command_of self.old ≡ Some (Query start len) }
@@ -140,14 +95,8 @@ impl Progress {
     {
         let mut turn = self.made.turn(self.number);
         let found = memory.query(&mut turn, start, len);
-        self.made.add(Entry {
-            stamp: turn.clock,
-            cpu: turn.cpu,
-            cmd: turn.cmd,
-            place: Place::Memory,
-            event: Event::Asked { found },
-            reply: Some(Reply::Query(found)),
-        });
+        self.made
+            .add_there(turn, Event::Asked { found }, Some(Reply::Query(found)));
     }
 
     /// Claims the guarded units of a range, for whose unaccepted runs there is room: the present command.
@@ -173,15 +122,16 @@ impl Progress {
         let mut turn = self.made.turn(self.number);
         match memory.begin_accept(&mut turn, start, len) {
             Begin::Blocked(_) => Stepped::Blocked,
-            Begin::Clear => self.claim(turn, units, None, rooms),
-            Begin::Claimed(span) => self.claim(turn, units, Some(span), rooms),
+            Begin::Clear => self.claim(turn, None, units, None, rooms),
+            Begin::Claimed(span) => self.claim(turn, None, units, Some(span), rooms),
         }
     }
 
-    /// Adds the entry of a claim, of whose runs the first is out in the span, if any.
-    fn claim(
+    /// Adds the entry of a claim, for a waiting block or for none, of whose runs the first is out in the span, if any.
+    pub(crate) fn claim(
         &mut self,
         turn: Turn,
+        block: Option<Block>,
         units: Option<Units>,
         span: Option<Span>,
         rooms: VecDeque<RunRoom>,
@@ -192,24 +142,23 @@ impl Progress {
         requires rooms { All (HasRoom self.old.boot) rooms.items }
         ensures event { result ≡ Stepped.Event }
         ensures course { let runs = runs_with span (runs_in rooms.items) in
-            self.new ≡ going_on self.old (claim_made turn units runs) span runs self.new.room }
+            self.new ≡ going_on self.old (claim_made turn block units runs)
+            span runs self.new.room }
     {
         let mut rooms = rooms;
         let run = go_on(&mut self.open_run, &mut rooms, span);
         self.later = rooms;
-        self.made.add(Entry {
-            stamp: turn.clock,
-            cpu: turn.cpu,
-            cmd: turn.cmd,
-            place: Place::Memory,
-            event: Event::Claim {
-                block: None,
-                units,
-                run,
-            },
-            reply: reply_of_claim(run),
-        });
+        let event = Event::Claim { block, units, run };
+        self.made.add_there(turn, event, reply_of_claim(block, run));
         Stepped::Event
+    }
+
+    /// Whether the present command is an allocation, whose claims are for blocks.
+    fn is_for_block(&self) -> bool
+        ensures { result ≡ is_alloc (command_of self.now) }
+    {
+        let number = self.made.replies();
+        number < self.script.len() && matches!(self.script.get(number), Command::Alloc { .. })
     }
 
     /// Reports the open run, which was worked on.
@@ -221,6 +170,7 @@ impl Progress {
             → claim_of memory.old.boot memory.old.entries self.old.number ≡ Some claim
             → Reports self.old self.new memory.old memory.new claim calls end }
     {
+        let for_block = self.is_for_block();
         let Worked {
             run,
             span,
@@ -229,20 +179,14 @@ impl Progress {
             end,
         } = worked_run(self.open_run.take());
         let mut turn = self.made.turn(self.number);
-        let (span, reply) = after_report(memory.report(&mut turn, span, calls, end));
+        let (span, reply) = after_report(memory.report(&mut turn, span, calls, end), for_block);
         let next = go_on(&mut self.open_run, &mut self.later, span);
-        self.made.add(Entry {
-            stamp: turn.clock,
-            cpu: turn.cpu,
-            cmd: turn.cmd,
-            place: Place::Memory,
-            event: Event::Report {
-                run,
-                calls: copy,
-                stopped: stopped_page(end),
-                next,
-            },
-            reply,
-        });
+        let event = Event::Report {
+            run,
+            calls: copy,
+            stopped: stopped_page(end),
+            next,
+        };
+        self.made.add_there(turn, event, reply);
     }
 }

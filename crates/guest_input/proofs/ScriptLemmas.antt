@@ -15,7 +15,7 @@ use Rattle.guest_input.specs.Asked.{Asks}
 use Rattle.guest_input.specs.Causes.{cause_of, IsGood}
 use Rattle.guest_input.specs.Files.{AreScriptsOf, IsEachOf, IsScriptOf}
 use Rattle.guest_input.specs.Reading.{Reading}
-use Rattle.guest_input.specs.Runnable.{IsRunnable}
+use Rattle.block_laws.specs.Runnable.{IsRunnable}
 use Rattle.guest_input.specs.Stops.{name_of}
 use Rattle.guest_input.specs.Stopping.{AsksOne, AsksOneMore, StopsAt, StopsAtOne}
 use Rattle.guest_input.proofs.InputLemmas.{good_again}

@@ -6,7 +6,8 @@ ghost use Rattle.event_core.specs.Given.{FitsGiven};
 ghost use Rattle.event_core.specs.Map.{MapRules};
 ghost use Rattle.event_core.specs.Table.{FitsTable, bad_unit};
 ghost use Rattle.efi_map.specs.MapFile.{map_of};
-ghost use Rattle.event_core.specs.RangedScripts.{IsRanged};
+ghost use Rattle.block_laws.specs.BlockScripts.{IsOfBlocks};
+ghost use Rattle.block_laws.specs.Runnable.{IsRunnable};
 ghost use Rattle.guest_base.specs.declared.memory.CpuNo.{CpuNo as Cpu};
 ghost use Rattle.guest_script.specs.Order.{order_in, ReadableOrder};
 ghost use Rattle.guest_script.specs.Script.{script_of};
@@ -17,7 +18,7 @@ ghost use Rattle.guest_input.specs.Causes.{limit_of, map_cause, order_cause, scr
 ghost use Rattle.guest_input.specs.Asked.{all_names};
 ghost use Rattle.guest_input.specs.Files.{AreGood, AreScriptsOf, IsGiven, IsOrderOf, IsScriptOf, IsTableOf};
 ghost use Rattle.guest_input.specs.Reading.{reading};
-ghost use Rattle.guest_input.specs.Runnable.{is_runnable, IsRunnable};
+ghost use Rattle.guest_input.specs.Runnable.{is_runnable};
 ghost use Rattle.guest_input.specs.Stopping.{AsksOne, content_by, FindsBy, StopsAt, StopsAtOne, StopsAtTable, StopsReading};
 ghost use Rattle.guest_input.specs.Stops.{name_of, IsNamed};
 
@@ -132,7 +133,17 @@ fn table_in(alloc: Global, bytes: &[u8], map: &GuestMap) -> Result<Bitmap, Stop>
 fn is_runnable(command: &Command) -> bool
     ensures { result ≡ is_runnable command.now }
 {
-    matches!(command, Command::Accept { .. } | Command::Query { .. })
+    matches!(
+        command,
+        Command::Alloc { .. }
+            | Command::Free { .. }
+            | Command::Accept { .. }
+            | Command::Query { .. }
+            | Command::Read { .. }
+            | Command::Write { .. }
+            | Command::Fill { .. }
+            | Command::Load { .. }
+    )
 }
 
 /// Whether all commands can be run today.
@@ -143,11 +154,11 @@ fn are_runnable(commands: &[Command]) -> bool
 }
 
 /// The script of a processor, where it can be run today.
-#[tactic(auto, using(crate::proofs::RunnableLemmas::all_ranged))]
+#[tactic(auto, using(crate::proofs::RunnableLemmas::all_of_blocks))]
 fn runnable(script: Script, cpu: CpuNo) -> Result<Script, Stop>
     ensures same { IfOk result (λ runnable. runnable ≡ script) }
     ensures runnable { OnOk result (list_all is_runnable script ≡ true) }
-    ensures ranged { OnOk result (All IsRanged script) }
+    ensures of_blocks { OnOk result (All IsOfBlocks script) }
     ensures later { IfErr result (λ stop. (stop ≡ Stop.Refused (InputFile.Script cpu) Cause.Later)
         × (list_all is_runnable script ≡ false)) }
 {

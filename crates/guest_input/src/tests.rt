@@ -84,6 +84,22 @@ fn no_order_of_a_run_on_threads(rt: HostRuntime) -> Result<(), Fail> {
 }
 
 #[test]
+fn commands_of_blocks_run_and_others_come_later(rt: HostRuntime) -> Result<(), Fail> {
+    let alloc = rt.alloc();
+    let of_blocks = "alloc a 3\nwrite a 0 01\nfill a 1 2 9\nread a 0 3\nload a 32761\nfree a\n";
+    assert_eq!(rt; stop_line(alloc, "", of_blocks)?.as_str(), "none");
+    assert_eq!(rt;
+        stop_line(alloc, "", "alloc a 10\nshare a\n")?.as_str(),
+        "refused: s1: later\n"
+    );
+    assert_eq!(rt;
+        stop_line(alloc, "", "map m a 0 1 both 0\n")?.as_str(),
+        "refused: s1: later\n"
+    );
+    Ok(())
+}
+
+#[test]
 fn the_first_file_that_is_refused(rt: HostRuntime) -> Result<(), Fail> {
     let alloc = rt.alloc();
     assert_eq!(rt; stop_line(alloc, "1 0", "")?.as_str(), "none");
@@ -100,7 +116,7 @@ fn the_first_file_that_is_refused(rt: HostRuntime) -> Result<(), Fail> {
         "refused: s1: line 2 word\n"
     );
     assert_eq!(rt;
-        stop_line(alloc, "", "free a")?.as_str(),
+        stop_line(alloc, "", "free a\ngiveback a")?.as_str(),
         "refused: s1: later\n"
     );
     Ok(())

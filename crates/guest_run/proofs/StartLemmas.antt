@@ -8,6 +8,7 @@ use Rattle.event_core.specs.Boot.{BootRight}
 use Rattle.event_core.specs.Given.{FitsGiven}
 use Rattle.event_core.specs.Map.{MapRules}
 use Rattle.event_core.specs.Table.{Bits}
+use Rattle.block_laws.specs.Runnable.{IsRunnable}
 use Rattle.guest_map.specs.declared.map.GuestMap.{GuestMap}
 use Rattle.guest_base.specs.declared.memory.CpuNo.{CpuNo}
 use Rattle.guest_script.specs.Order.{ReadableOrder}
@@ -18,13 +19,12 @@ use Rattle.guest_input.specs.Asked.{all_names, Asks}
 use Rattle.guest_input.specs.Files.{AreGood, AreScriptsOf, IsGiven, IsOrderOf}
 use Rattle.guest_input.specs.declared.input.Input.{Input}
 use Rattle.guest_input.specs.Reading.{Reading}
-use Rattle.guest_input.specs.Runnable.{IsRunnable}
 use Rattle.guest_input.specs.Stopping.{StopsReading}
 use Rattle.guest_input.specs.declared.stop.Stop.{Stop}
 use Rattle.guest_input.specs.declared.stop.Stop.TheVariants.{Refused, NotRead, Module, NoMemory}
 use Rattle.guest_input.proofs.InputLemmas.{asks_all}
 use Rattle.guest_runs.specs.Asking.{Asking, Unasked, first_made}
-use Rattle.guest_runs.specs.Beginning.{Begins, IsShort}
+use Rattle.guest_runs.specs.Beginning.{Begins}
 use Rattle.guest_run.specs.Boots.{BootEnds}
 use Rattle.guest_run.specs.Starting.{Starts}
 use Rattle.guest_run.specs.Stopping.{Stopped}
@@ -59,19 +59,16 @@ cpus_some cpus h = let le = leb-true 1 cpus (both (nat_le 1 cpus) (nat_le cpus M
 pub cpus_few : (cpus : ℕ) → is_cpus cpus ≡ true → cpus ≤ MAX_CPUS
 cpus_few cpus h = leb-true cpus MAX_CPUS (both (nat_le 1 cpus) (nat_le cpus MAX_CPUS) h).1
 
--- a script that was read can be run
-short_one : (script : List Command) → IsRunnable script → IsShort script
-short_one script runnable = record { few = runnable.readable.few; ranged = runnable.ranged }
-
 -- the world of a boot, with the scripts that were read
 pub begins : {P : Type 0} (made : P → List ModuleCall) (world : World) (scripts : List (List Command)) (map : GuestMap) (table : Option Bits) (areas cpus : ℕ) (old ports : List P) → cpus ≡ length scripts → 0 < length scripts → length scripts ≤ MAX_CPUS → All IsRunnable scripts → MapRules map.descriptors map.hosts → FitsGiven map.descriptors table
     → BootRight map.descriptors map.hosts table 0 areas cpus world.boot → WorldStands world → MAX_CPUS ≤ length old → All (λ p. made p ≡ []) old → first_made made ports ≡ world.boot.calls → length ports ≡ length old → drop 1 ports ≡ drop 1 old → Begins made world scripts ports
 begins made world scripts map table areas cpus old ports many some few runnable rules fits right stands enough unmade first same others = record {
   stands = stands;
-  right = (map.descriptors, map.hosts, table, 0, areas, rules, fits, subst (λ n. BootRight map.descriptors map.hosts table 0 areas n world.boot) many right);
+  boot_made = record { descriptors = map.descriptors; hosts = map.hosts; table = table; slots = 0; areas = areas; cpus = cpus; rules = rules; fits = fits; right = right };
+  cpus = right.uncalled.same_cpus ∙ many;
   some = some;
   few = few;
-  short = λ at d less. short_one _ (runnable at d less);
+  runnable = runnable;
   enough = omega (arith, few, enough, same);
   first = first;
   others = others_unmade made old ports unmade others;

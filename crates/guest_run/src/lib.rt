@@ -8,4 +8,6 @@ mod start;
 pub use program::{Ended, plain, top};
 
 #[cfg(test)]
+mod block_tests;
+#[cfg(test)]
 mod tests;

@@ -3,12 +3,12 @@ ghost use Rattle.std.specs.Prelude.{◌≡◌, ◌<◌, ◌≤◌, ◌++◌, [],
 ghost use Rattle.event_core.specs.Boot.{BootRight};
 ghost use Rattle.event_core.specs.Given.{FitsGiven};
 ghost use Rattle.event_core.specs.Map.{MapRules};
+ghost use Rattle.block_laws.specs.Runnable.{IsRunnable};
 ghost use Rattle.guest_base.specs.declared.limits.TheConstants.{MAX_CPUS};
 ghost use Rattle.guest_boot.specs.Worlds.{WorldStands};
 ghost use Rattle.guest_input.specs.Asked.{all_names};
 ghost use Rattle.guest_input.specs.Files.{AreGood};
 ghost use Rattle.guest_input.specs.Reading.{reading};
-ghost use Rattle.guest_input.specs.Runnable.{IsRunnable};
 ghost use Rattle.guest_words.specs.Views.{seen};
 ghost use Rattle.guest_words.specs.Words.{cpus_in, is_cpus};
 ghost use Rattle.guest_runs.specs.Asking.{asking, first_made, PortsKept};

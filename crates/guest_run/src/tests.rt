@@ -11,7 +11,7 @@ use std::test::Fail;
 use std::thread::Threads;
 
 /// `mem 7 0x0 1024` and `mem 15 0x400000 2048`.
-const MAP: [u8; 100] = [
+pub(crate) const MAP: [u8; 100] = [
     b'G', b'M', b'A', b'P', 40, 0, 0, 0, 1, 0, 0, 0, 2, 0, 0, 0, // the header
     7, 0, 0, 0, 0, 0, 0, 0, 0, 0, 0, 0, 0, 0, 0, 0, 0, 0, 0, 0, 0, 0, 0, 0, 0, 4, 0, 0, 0, 0, 0, 0,
     0, 0, 0, 0, 0, 0, 0, 0, 15, 0, 0, 0, 0, 0, 0, 0, 0, 0, 64, 0, 0, 0, 0, 0, 0, 0, 0, 0, 0, 0, 0,
@@ -33,7 +33,7 @@ const TABLE: [u8; 25] = [
 ];
 
 /// A port for each processor, of which the calls with these numbers fail.
-fn ports_failing(alloc: Global, failing: &[u64]) -> Result<Vec<MemPort>, AllocError>
+pub(crate) fn ports_failing(alloc: Global, failing: &[u64]) -> Result<Vec<MemPort>, AllocError>
     ensures count { IfOk result (λ ports. length ports.items ≡ 64) }
     ensures unmade { IfOk result (λ ports.
         All (λ port. ⟦<MemPort as Port>⟧.made port ≡ []) ports.items) }
@@ -46,7 +46,7 @@ fn ports_failing(alloc: Global, failing: &[u64]) -> Result<Vec<MemPort>, AllocEr
 }
 
 /// Pairs of ports, each of which fails where it does not see the other one asked meanwhile.
-fn gate_ports(alloc: Global) -> Result<Vec<GatePort>, AllocError>
+pub(crate) fn gate_ports(alloc: Global) -> Result<Vec<GatePort>, AllocError>
     ensures count { IfOk result (λ ports. length ports.items ≡ 64) }
     ensures unmade { IfOk result (λ ports.
         All (λ port. ⟦<GatePort as Port>⟧.made port ≡ []) ports.items) }
@@ -60,12 +60,16 @@ fn gate_ports(alloc: Global) -> Result<Vec<GatePort>, AllocError>
     Ok(ports)
 }
 
-fn named(alloc: Global, name: &str, content: &[u8]) -> Result<(String, Vec<u8>), AllocError> {
+pub(crate) fn named(
+    alloc: Global,
+    name: &str,
+    content: &[u8],
+) -> Result<(String, Vec<u8>), AllocError> {
     Ok((String::from_str(alloc, name)?, content.to_vec(alloc)?))
 }
 
 /// The files `O`, `A`, `T`, `s0` and `s1`, of which the reads with these numbers fail.
-fn files_of(
+pub(crate) fn files_of(
     alloc: Global,
     order: &[u8],
     map: &[u8],
@@ -82,7 +86,7 @@ fn files_of(
     Ok(MemFiles::new(alloc, files, failing.to_vec(alloc)?))
 }
 
-fn words_of(alloc: Global, line: &str) -> Result<Vec<String>, AllocError> {
+pub(crate) fn words_of(alloc: Global, line: &str) -> Result<Vec<String>, AllocError> {
     let mut words = Vec::new(alloc);
     for word in line.split(' ') {
         words.push(String::from_str(alloc, word)?)?;
@@ -91,7 +95,7 @@ fn words_of(alloc: Global, line: &str) -> Result<Vec<String>, AllocError> {
 }
 
 /// The status of a run by turns on these ports, where it writes this text, and how many entries it has.
-fn turned(
+pub(crate) fn turned(
     alloc: Global,
     line: &str,
     mut files: MemFiles,
@@ -110,7 +114,7 @@ fn turned(
 }
 
 /// The status of a run on these ports, where it writes this text.
-fn ran<R: Threads + Wait + Sync, P: Port + Send>(
+pub(crate) fn ran<R: Threads + Wait + Sync, P: Port + Send>(
     rt: &R,
     alloc: Global,
     line: &str,
@@ -219,7 +223,7 @@ fn calls_that_fail(rt: HostRuntime) -> Result<(), Fail> {
 #[test]
 fn files_and_puts_that_fail(rt: HostRuntime) -> Result<(), Fail> {
     let alloc = rt.alloc();
-    let (first, second) = (b"accept 0x400000 0x1000\n", b"free a\n");
+    let (first, second) = (b"accept 0x400000 0x1000\n", b"share a\n");
     let words = "turns O --slots 0 A s0 s1";
     let files = files_of(alloc, b"", &MAP, first, second, &[])?;
     let out = MemSink::new(alloc, Vec::new(alloc));

@@ -2,31 +2,31 @@ use Rattle.std.proofs.Common.{◌≡◌, ℕ, zero, suc, ◌+◌, ◌≤◌, Som
 use Rattle.std.specs.Prelude.{All}
 use Rattle.std.proofs.lemmas.List.{length-map}
 use Rattle.std.proofs.lemmas.List.Elements.{All-nil, All-cons, All-head, All-tail}
-use Rattle.guest_base.specs.declared.limits.TheConstants.{MAX_COMMANDS}
 use Rattle.event_core.specs.declared.boot.Boot.{Boot}
 use Rattle.event_core.specs.declared.command.Command.{Command}
 use Rattle.event_core.specs.declared.module_call.ModuleCall.{ModuleCall}
-use Rattle.event_core.specs.RangedScripts.{IsRanged}
+use Rattle.event_core.specs.ReadableScript.{ReadableScript}
+use Rattle.event_laws.specs.Coming.{BootMade}
+use Rattle.block_laws.specs.BlockScripts.{IsOfBlocks}
+use Rattle.block_laws.specs.Runnable.{IsRunnable}
 use Rattle.memory_core.specs.Booted.{IsBooted}
 use Rattle.memory_core.specs.Value.{MemoryValue}
+use Rattle.memory_core.proofs.CutLemmas.{cut-length}
 use Rattle.memory_core.proofs.PartsLemmas.{booted}
 use Rattle.guest_boot.specs.declared.world.World.{World}
 use Rattle.guest_steps.specs.Running.{AllStand, AtFirst, IsFresh}
 use Rattle.guest_steps.specs.Seen.{Seen, first_seen}
 use Rattle.guest_steps.specs.Standing.{Stands}
 use Rattle.guest_steps.proofs.BeginningLemmas.{AreProcessors, beginning}
-use Rattle.guest_runs.specs.Beginning.{Begins, BootFor, IsShort}
+use Rattle.guest_runs.specs.Beginning.{Begins}
 use Rattle.guest_runs.specs.OnPorts.{first_on}
 
 -- The processors of a booted world, before the first entry.
 
-pub boot-cpus : (cpus : ℕ) (boot : Boot) → BootFor cpus boot → boot.cpus ≡ cpus
-boot-cpus cpus boot right = right.7.uncalled.same_cpus
-
-boot-booted : (cpus : ℕ) (boot : Boot) → BootFor cpus boot → cpus ≤ 64 → IsBooted boot
-boot-booted cpus boot right few =
-    let same = boot-cpus cpus boot right in
-    booted right.0 right.1 right.2 right.3 right.4 cpus boot right.5 right.6 right.7.uncalled (omega (arith, same, few))
+boot-booted : (boot : Boot) → BootMade boot → boot.cpus ≤ 64 → IsBooted boot
+boot-booted boot made few =
+    let same : boot.cpus ≡ made.cpus = made.right.uncalled.same_cpus in
+    booted made.descriptors made.hosts made.table made.slots made.areas made.cpus boot made.rules made.fits made.right.uncalled (omega (arith, same, few))
 
 module _ {P : Type 0} (made : P → List ModuleCall) (faults : P → ℕ) (boot : Boot) where
   first-fresh : (number : ℕ) (scripts : List (List Command)) (ports : List P) → All IsFresh (first_on made faults boot number scripts ports)
@@ -34,17 +34,17 @@ module _ {P : Type 0} (made : P → List ModuleCall) (faults : P → ℕ) (boot 
   first-fresh number (script ∷ scripts) [] = All-nil IsFresh
   first-fresh number (script ∷ scripts) (port ∷ ports) = All-cons IsFresh _ (first_on made faults boot (number + 1) scripts ports) refl (first-fresh (number + 1) scripts ports)
 
-  first-at : (number : ℕ) (scripts : List (List Command)) (ports : List P) (k : ℕ) (c : Seen) → All IsShort scripts → slice_get (first_on made faults boot number scripts ports) k ≡ Some c → (c.number ≡ number + k) × (c.boot ≡ boot) × All IsRanged c.script × (length c.script ≤ MAX_COMMANDS)
-  first-at number [] ports k c short at = cc
-  first-at number (script ∷ scripts) [] k c short at = cc
-  first-at number (script ∷ scripts) (port ∷ ports) zero c short at =
-      let has = All-head IsShort script scripts short in
-      let B : Seen → Type 0 = λ c. (c.number ≡ number + 0) × (c.boot ≡ boot) × All IsRanged c.script × (length c.script ≤ MAX_COMMANDS) in
+  first-at : (number : ℕ) (scripts : List (List Command)) (ports : List P) (k : ℕ) (c : Seen) → All IsRunnable scripts → slice_get (first_on made faults boot number scripts ports) k ≡ Some c → (c.number ≡ number + k) × (c.boot ≡ boot) × All IsOfBlocks c.script × ReadableScript c.script
+  first-at number [] ports k c runnable at = cc
+  first-at number (script ∷ scripts) [] k c runnable at = cc
+  first-at number (script ∷ scripts) (port ∷ ports) zero c runnable at =
+      let has = All-head IsRunnable script scripts runnable in
+      let B : Seen → Type 0 = λ c. (c.number ≡ number + 0) × (c.boot ≡ boot) × All IsOfBlocks c.script × ReadableScript c.script in
       let first : Seen = first_seen boot number script (made port) (faults port) in
       let same : first ≡ c = cc in
-      subst B same ((let n : number ≡ number + 0 = omega arith in n), refl, has.ranged, has.few)
-  first-at number (script ∷ scripts) (port ∷ ports) (suc k) c short at =
-      let rest = first-at (number + 1) scripts ports k c (All-tail IsShort script scripts short) at in
+      subst B same ((let n : number ≡ number + 0 = omega arith in n), refl, has.of_blocks, has.readable)
+  first-at number (script ∷ scripts) (port ∷ ports) (suc k) c runnable at =
+      let rest = first-at (number + 1) scripts ports k c (All-tail IsRunnable script scripts runnable) at in
       let is = rest.0 in
       (omega (arith, is), rest.1, rest.2, rest.3)
 
@@ -67,13 +67,14 @@ module _ {P T : Type 0} (made : P → List ModuleCall) (faults : P → ℕ) (see
   pub begin-stand : (world : World) (scripts : List (List Command)) (ports : List P) (ps : List P) (all : List T) → Begins made world scripts ports → map seen all ≡ first_on made faults world.boot 0 scripts ps → length all ≡ length scripts
       → All (λ c. (m : MemoryValue) → Stands (seen c) m → stands c m) all → AllStand seen stands world.boot all world.memory
   begin-stand world scripts ports ps all begins is count each =
-      let right = begins.right in
-      let long : length (map seen all) ≡ world.boot.cpus = length-map all seen ∙ count ∙ sym (boot-cpus (length scripts) world.boot right) in
+      let few = begins.few in
+      let cpus = begins.cpus in
+      let long : length (map seen all) ≡ world.boot.cpus = length-map all seen ∙ count ∙ sym cpus in
       let are : AreProcessors world.boot (map seen all) = λ cpu c at.
-      (let found = first-at made faults world.boot 0 scripts ps cpu c begins.short (ap (λ cs. slice_get cs cpu) (sym is) ∙ at) in
+      (let found = first-at made faults world.boot 0 scripts ps cpu c begins.runnable (ap (λ cs. slice_get cs cpu) (sym is) ∙ at) in
       (found.0 ∙ (let same : 0 + cpu ≡ cpu = omega arith in same), found.1, found.2, found.3))
       in
-      let together = beginning world.boot (map seen all) world.memory (boot-booted (length scripts) world.boot right begins.few) long begins.stands.same (begin-first world scripts ports ps all begins is) are in
+      let together = beginning world.boot (map seen all) world.memory (boot-booted world.boot begins.boot_made (omega (arith, few, cpus))) (cut-length world.boot begins.boot_made) long begins.stands.same (begin-first world scripts ports ps all begins is) are in
       record {
         together = together;
         each = all-standing seen stands all world.memory each (λ cpu c at. (together.each cpu c at).2);

@@ -7,10 +7,13 @@ use Rattle.event_core.specs.declared.boot.Recorded.{Recorded}
 use Rattle.event_core.specs.declared.module_call.ModuleCall.{ModuleCall}
 use Rattle.event_core.specs.Calls.{SoundCalls}
 use Rattle.event_core.specs.Legal.{Whole}
-use Rattle.event_core.specs.RangedScripts.{IsRanged, RangedScripts}
 use Rattle.event_core.specs.Runs.{state_in}
-use Rattle.event_core.proofs.RangedLemmas.{ranged-untouched, ranged-disjoint, ranged-told, ranged-full}
-use Rattle.event_core.proofs.SoundLemmas.{accepted_once}
+use Rattle.event_laws.specs.Coming.{BootMade}
+use Rattle.block_laws.specs.BlockScripts.{BlockScripts, IsOfBlocks}
+use Rattle.block_laws.proofs.CallFacts.{blocks-accepted-once}
+use Rattle.block_laws.proofs.HistoryFacts.{blocks-untouched}
+use Rattle.block_laws.proofs.MappingFacts.{blocks-disjoint, blocks-full}
+use Rattle.block_laws.proofs.ToldFacts.{legal-told}
 use Rattle.memory_core.specs.Value.{MemoryValue}
 use Rattle.guest_steps.specs.Running.{AreOf}
 use Rattle.guest_steps.specs.Seen.{Seen}
@@ -22,31 +25,31 @@ use Rattle.guest_runs.proofs.RanLemmas.{RanHere, module-failed, ports-made}
 
 -- What a run keeps whose entries are one history of the processors.
 
-all-ranged : (all : List Seen) → ((cpu : ℕ) (c : Seen) → slice_get all cpu ≡ Some c → All IsRanged c.script) → RangedScripts (scripts_of all)
-all-ranged [] each = tt
-all-ranged (c ∷ all) each = (recursion_from_All IsRanged c.script (each 0 c refl), all-ranged all (λ cpu d at. each (suc cpu) d at))
+all-of-blocks : (all : List Seen) → ((cpu : ℕ) (c : Seen) → slice_get all cpu ≡ Some c → All IsOfBlocks c.script) → BlockScripts (scripts_of all)
+all-of-blocks [] each = tt
+all-of-blocks (c ∷ all) each = (recursion_from_All IsOfBlocks c.script (each 0 c refl), all-of-blocks all (λ cpu d at. each (suc cpu) d at))
 
-together-ranged : (boot : Boot) (all : List Seen) (memory : MemoryValue) → Together boot all memory → RangedScripts (scripts_of all)
-together-ranged boot all memory t = all-ranged all (λ cpu c at. (t.each cpu c at).2.ranged)
+together-of-blocks : (boot : Boot) (all : List Seen) (memory : MemoryValue) → Together boot all memory → BlockScripts (scripts_of all)
+together-of-blocks boot all memory t = all-of-blocks all (λ cpu c at. (t.each cpu c at).2.of_blocks)
 
 together-count : (boot : Boot) (all : List Seen) (memory : MemoryValue) → Together boot all memory → length (scripts_of all) ≡ boot.cpus
 together-count boot all memory t = length-map all (λ (c : Seen). c.script) ∙ t.count
 
 module _ {P : Type 0} (made : P → List ModuleCall) (faults : P → ℕ) (never : P → Type 0) where
-  pub keeps-run : (boot : Boot) (all : List Seen) (memory : MemoryValue) (olds news rest : List P) (order : Option (List ℕ)) (entries : List _) → RanHere made faults never boot all memory olds news rest → SoundCalls (state_in boot.ram) boot.calls → AreOf all entries
+  pub keeps-run : (boot : Boot) (all : List Seen) (memory : MemoryValue) (olds news rest : List P) (order : Option (List ℕ)) (entries : List _) → RanHere made faults never boot all memory olds news rest → BootMade boot → SoundCalls (state_in boot.ram) boot.calls → AreOf all entries
       → Whole boot (scripts_of all) entries → TurnedWhere order (record { boot = boot; scripts = scripts_of all; entries = entries })
       → KeepsRun (asking made faults never (olds ++ rest) (news ++ rest)) order (record { boot = boot; scripts = scripts_of all; entries = entries })
-  keeps-run boot all memory olds news rest order entries here sound are whole turned =
+  keeps-run boot all memory olds news rest order entries here of_map sound are whole turned =
       let r : Recorded = record { boot = boot; scripts = scripts_of all; entries = entries } in
-      let ranged = together-ranged boot all memory here.together in
+      let of_blocks = together-of-blocks boot all memory here.together in
       let legal = whole.legal in
       record {
         history = record { whole = whole; turned = turned };
-        accepted_once = accepted_once boot (scripts_of all) entries ranged (together-count boot all memory here.together) sound legal;
-        untouched = ranged-untouched boot (scripts_of all) entries ranged legal;
-        disjoint = ranged-disjoint boot (scripts_of all) entries ranged legal;
-        bytes = ranged-told boot (scripts_of all) entries ranged;
-        full = ranged-full boot (scripts_of all) entries ranged legal;
+        accepted_once = blocks-accepted-once boot (scripts_of all) entries of_blocks (together-count boot all memory here.together) sound legal;
+        untouched = blocks-untouched boot (scripts_of all) entries of_map of_blocks legal;
+        disjoint = blocks-disjoint boot (scripts_of all) entries of_blocks legal;
+        bytes = legal-told boot (scripts_of all) entries legal;
+        full = blocks-full boot (scripts_of all) entries of_blocks legal;
         calls = ports-made made faults never boot all memory olds news rest r here refl are;
         «module» = module-failed made faults never boot all memory olds news rest r here are;
       }

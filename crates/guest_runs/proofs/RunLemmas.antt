@@ -9,12 +9,12 @@ use Rattle.event_core.specs.declared.boot.Recorded.{Recorded}
 use Rattle.event_core.specs.declared.command.Command.{Command}
 use Rattle.event_core.specs.declared.entry.Entry.{Entry}
 use Rattle.event_core.specs.declared.module_call.ModuleCall.{ModuleCall}
-use Rattle.event_core.specs.Boot.{BootRight}
 use Rattle.event_core.specs.Calls.{SoundCalls, calls_of}
 use Rattle.event_core.specs.Legal.{Whole}
 use Rattle.event_core.specs.MemoryRows.{page_state}
 use Rattle.event_core.specs.Runs.{AreMaximalRuns, state_in}
 use Rattle.event_core.specs.Turns.{entries_by}
+use Rattle.event_laws.specs.Coming.{BootMade}
 use Rattle.memory_core.specs.Value.{MemoryValue}
 use Rattle.guest_boot.specs.declared.world.World.{World}
 use Rattle.guest_text.specs.Printings.{FinalRuns}
@@ -24,7 +24,7 @@ use Rattle.guest_steps.specs.Running.{AllFinished, AreOf, EachLater, TurnedBy}
 use Rattle.guest_steps.specs.Seen.{Seen}
 use Rattle.guest_steps.specs.Standing.{Together, lists_of, scripts_of}
 use Rattle.guest_runs.specs.Asking.{Asking, asking, OthersUnmade, PortsKept, first_made}
-use Rattle.guest_runs.specs.Beginning.{Begins, BootFor}
+use Rattle.guest_runs.specs.Beginning.{Begins}
 use Rattle.guest_runs.specs.OnPorts.{HaveFinished, HaveRun, first_on, ports_of}
 use Rattle.guest_runs.specs.Recordings.{KeepsRun, RunHalts, Tells, TurnedWhere}
 use Rattle.guest_runs.proofs.KeepLemmas.{keeps-run, run-halts}
@@ -177,37 +177,36 @@ module _ {P : Type 0} (made : P → List ModuleCall) (faults : P → ℕ) (never
         let H : List (List Command) → Type 0 = RunHalts (asking made faults never before after) boot in
         subst H ran.scripts_are (whole-ports (λ ports. RunHalts ports boot (scripts_of all)) (run-halts made faults never boot all memory ran.olds ran.news ran.rest ran.here))
 
-    keeps-made : (order : Option (List ℕ)) (entries : List Entry) → SoundCalls (state_in boot.ram) boot.calls → AreOf all entries → Whole boot scripts entries → ((turns : List ℕ) → order ≡ Some turns → TurnedBy boot all turns)
+    keeps-made : (order : Option (List ℕ)) (entries : List Entry) → BootMade boot → SoundCalls (state_in boot.ram) boot.calls → AreOf all entries → Whole boot scripts entries → ((turns : List ℕ) → order ≡ Some turns → TurnedBy boot all turns)
         → KeepsRun (asking made faults never before after) order (record { boot = boot; scripts = scripts; entries = entries })
-    keeps-made order entries sound are whole turned =
+    keeps-made order entries of_map sound are whole turned =
         let W : List (List Command) → Type 0 = λ ss. Whole boot ss entries in
         let K : List (List Command) → Type 0 = λ ss. KeepsRun (asking made faults never before after) order (record { boot = boot; scripts = ss; entries = entries }) in
         subst K ran.scripts_are
         (whole-ports (λ ports. KeepsRun ports order (record { boot = boot; scripts = scripts_of all; entries = entries }))
-        (keeps-run made faults never boot all memory ran.olds ran.news ran.rest order entries ran.here sound are (subst W (sym ran.scripts_are) whole) (turned-where boot all order entries are turned)))
+        (keeps-run made faults never boot all memory ran.olds ran.news ran.rest order entries ran.here of_map sound are (subst W (sym ran.scripts_are) whole) (turned-where boot all order entries are turned)))
 
     -- what is recorded of them
-    pub after-keeps : {E : Type 0} (order : Option (List ℕ)) (left : List (List Command)) (lists : List (List Entry)) (result : Result (Recorded × List PageRun) E) → SoundCalls (state_in boot.ram) boot.calls → left ≡ scripts → lists ≡ lists_of all → ((turns : List ℕ) → order ≡ Some turns → TurnedBy boot all turns)
+    pub after-keeps : {E : Type 0} (order : Option (List ℕ)) (left : List (List Command)) (lists : List (List Entry)) (result : Result (Recorded × List PageRun) E) → BootMade boot → SoundCalls (state_in boot.ram) boot.calls → left ≡ scripts → lists ≡ lists_of all → ((turns : List ℕ) → order ≡ Some turns → TurnedBy boot all turns)
         → IfOk result (λ r. r.0.boot ≡ boot) → IfOk result (λ r. r.0.scripts ≡ left) → IfOk result (λ r. (cpu : ℕ) → entries_by cpu r.0.entries ≡ unwrap_or (slice_get lists cpu) []) → IfOk result (λ r. Whole boot left r.0.entries)
         → IfOk result (λ r. KeepsRun (asking made faults never before after) order r.0)
-    after-keeps order left lists (Err e) sound left_is lists_are turned same_boot same_scripts entries whole = tt
-    after-keeps order left lists (Ok r) sound left_is lists_are turned same_boot same_scripts entries whole =
+    after-keeps order left lists (Err e) of_map sound left_is lists_are turned same_boot same_scripts entries whole = tt
+    after-keeps order left lists (Ok r) of_map sound left_is lists_are turned same_boot same_scripts entries whole =
         let W : List (List Command) → Type 0 = λ ss. Whole boot ss r.0.entries in
         let are : AreOf all r.0.entries = λ cpu. entries cpu ∙ ap (λ ls. unwrap_or (slice_get ls cpu) []) lists_are in
         subst (KeepsRun (asking made faults never before after) order) (same-run r.0 boot scripts same_boot (same_scripts ∙ left_is))
-        (keeps-made order r.0.entries sound are (subst W left_is whole) turned)
+        (keeps-made order r.0.entries of_map sound are (subst W left_is whole) turned)
 
   -- the runs that are told are the final ones
-  pub after-final : {E : Type 0} (cpus : ℕ) (boot : Boot) (before after : List P) (order : Option (List ℕ)) (result : Result (Recorded × List PageRun) E) → BootFor cpus boot → IfOk result (λ r. r.0.boot ≡ boot) → IfOk result (λ r. KeepsRun (asking made faults never before after) order r.0)
+  pub after-final : {E : Type 0} (boot : Boot) (before after : List P) (order : Option (List ℕ)) (result : Result (Recorded × List PageRun) E) → BootMade boot → IfOk result (λ r. r.0.boot ≡ boot) → IfOk result (λ r. KeepsRun (asking made faults never before after) order r.0)
       → IfOk result (λ r. AreMaximalRuns (page_state boot (calls_of boot r.0.entries)) r.1) → IfOk result (λ r. FinalRuns r.0 r.1)
-  after-final cpus boot before after order (Err e) right same keeps maximal = tt
-  after-final cpus boot before after order (Ok r) right same keeps maximal =
-      let B : Boot → Type 0 = BootRight right.0 right.1 right.2 right.3 right.4 cpus in
+  after-final boot before after order (Err e) of_map same keeps maximal = tt
+  after-final boot before after order (Ok r) of_map same keeps maximal =
       let M : Boot → Type 0 = λ b. AreMaximalRuns (page_state b (calls_of b r.0.entries)) r.1 in
       let here = subst M (sym same) maximal in
       record {
         maximal = here;
-        within = runs_within right.0 right.1 right.2 right.3 right.4 cpus r.0.boot (calls_of r.0.boot r.0.entries) r.1 right.5 (subst B (sym same) right.7) keeps.accepted_once.sound here;
+        within = runs_within r.0.boot (calls_of r.0.boot r.0.entries) r.1 (subst BootMade (sym same) of_map) keeps.accepted_once.sound here;
       }
 
   -- what a run tells where memory ran out
@@ -255,15 +254,15 @@ module _ {P : Type 0} (made : P → List ModuleCall) (faults : P → ℕ) (never
       let ran = after-run world scripts order before mid after all _ run are in
       let ran_on = subst (λ b. AfterRun b scripts before after cs run.stood) same ran in
       let S : Boot → Type 0 = λ b. SoundCalls (state_in b.ram) b.calls in
-      let F : Boot → Type 0 = BootFor (length scripts) in
+      let of_map = subst BootMade same run.begins.boot_made in
       let scripts_left : left ≡ scripts = left_is ∙ sym (map-map (λ (c : Seen). c.script) (seen_by made faults) all) ∙ ran.scripts_are in
-      let keeps = after-keeps boot scripts before after cs run.stood ran_on {E = E} order left lists (Ok r) (subst S same run.begins.stands.sound) scripts_left (lists_are ∙ sym (map-map (λ (c : Seen). c.entries) (seen_by made faults) all))
+      let keeps = after-keeps boot scripts before after cs run.stood ran_on {E = E} order left lists (Ok r) of_map (subst S same run.begins.stands.sound) scripts_left (lists_are ∙ sym (map-map (λ (c : Seen). c.entries) (seen_by made faults) all))
       (λ turns is. subst (λ b. TurnedBy b cs turns) same (run.turned turns is)) boot_is of_left entries whole in
       record {
         boot_is = boot_is;
         scripts_are = of_left ∙ scripts_left;
         run = keeps;
-        final_runs = after-final {E = E} (length scripts) boot before after order (Ok r) (subst F same run.begins.right) boot_is keeps maximal;
+        final_runs = after-final {E = E} boot before after order (Ok r) of_map boot_is keeps maximal;
         halted = tt;
         kept = after-kept boot scripts before after cs run.stood ran_on;
       }

@@ -4,18 +4,14 @@ use Rattle.std.specs.Option.{option_map}
 use Rattle.std.proofs.lemmas.Bool.{cases_Bool, cases_lt}
 use Rattle.std.proofs.lemmas.Bool.Decides.{nat_tests}
 use Rattle.guest_base.specs.declared.memory.PageRun.{PageRun}
-use Rattle.guest_base.specs.declared.memory.HostRun.{HostRun}
-use Rattle.event_core.specs.declared.boot.Descriptor.{Descriptor}
 use Rattle.event_core.specs.declared.boot.Boot.{Boot}
 use Rattle.event_core.specs.declared.module_call.ModuleCall.{ModuleCall}
-use Rattle.event_core.specs.Boot.{BootRight}
 use Rattle.event_core.specs.Calls.{States, is_done, covers, after_call, state_after, SoundCalls}
-use Rattle.event_core.specs.Map.{MapRules}
 use Rattle.event_core.specs.MemoryRows.{page_state}
 use Rattle.event_core.specs.Runs.{run_holds, state_in, AreMaximalRuns}
 use Rattle.event_core.proofs.BootFacts.{ram-low}
-use Rattle.event_core.specs.Table.{Bits}
 use Rattle.guest_base.specs.declared.memory.PageState.{PageState}
+use Rattle.event_laws.specs.Coming.{BootMade}
 use Rattle.guest_text.specs.Printings.{EndInMemory}
 
 -- The final runs of pages end in memory.
@@ -58,15 +54,15 @@ none_where None h = refl
 none_where (Some state) h = absurd (h (λ no. cc))
 
 -- maximal runs of pages after sound calls end in memory
-pub runs_within : (map : List Descriptor) (hosts : List HostRun) (table : Option Bits) (slots areas cpus : ℕ) (boot : Boot) (calls : List ModuleCall) (runs : List PageRun) → MapRules map hosts → BootRight map hosts table slots areas cpus boot → SoundCalls (state_in boot.ram) calls → AreMaximalRuns (page_state boot calls) runs → EndInMemory runs
-runs_within map hosts table slots areas cpus boot calls runs rules right sound maximal k d lt =
+pub runs_within : (boot : Boot) (calls : List ModuleCall) (runs : List PageRun) → BootMade boot → SoundCalls (state_in boot.ram) calls → AreMaximalRuns (page_state boot calls) runs → EndInMemory runs
+runs_within boot calls runs made sound maximal k d lt =
     let run = get_or runs k d in
     let page = run.pages.first + run.pages.count - 1 in
     let some : 0 < run.pages.count = maximal.some k d lt in
     elim (cases_lt page (2 ^ 28)) [
       | inl low ↦ omega (arith, low)
       | inr high ↦
-          let first : state_in boot.ram page ≡ None = none_where (state_in boot.ram page) (λ some. (let low = ram-low map hosts table slots areas cpus boot rules right.uncalled page some in omega (arith, low, high))) in
+          let first : state_in boot.ram page ≡ None = none_where (state_in boot.ram page) (λ some. (let low = ram-low made.descriptors made.hosts made.table made.slots made.areas made.cpus boot made.rules made.right.uncalled page some in omega (arith, low, high))) in
           let none : state_in runs page ≡ None = maximal.each page ∙ none_stays (state_in boot.ram) calls page sound first in
           absurd (found_in page runs k d lt (holds_last run page some (omega (arith, some))) (no_state page (find (run_holds page) runs) none))
     ]

@@ -16,9 +16,9 @@ use std::alloc::{AllocError, Global};
 /// Runs a script on each processor of a world by turns, on one thread and without a lock: turns in this order, and then rounds of
 /// all processors, until every command has its reply. Tells what is recorded, and the final runs of pages.
 ///
-/// There are 1 to 64 scripts, one for each processor of the boot, of at most 2,048 commands on ranges of memory. Every number of the
-/// order is below the number of scripts. The ports are at least as many; processor n runs on port n, and boot made its calls on the
-/// first. Whatever the answer, the ports stand in their places again.
+/// There are 1 to 64 scripts, one for each processor of the boot, of at most 2,048 commands, which are about ranges of memory and
+/// about blocks. Every number of the order is below the number of scripts. The ports are at least as many; processor n runs on
+/// port n, and boot made its calls on the first. Whatever the answer, the ports stand in their places again.
 ///
 /// An error comes only where memory runs out; the ports' calls are then those of a legal history of the scripts, which needn't be
 /// whole.

@@ -2,7 +2,8 @@
 ghost use Rattle.std.specs.Prelude.{◌≡◌, List, All, IfOk, length};
 ghost use Rattle.event_core.specs.declared.command.Command.{Command as CommandValue};
 ghost use Rattle.guest_cpu.specs.Standing.{CpuStands, seen_by};
-ghost use Rattle.guest_runs.specs.Beginning.{Begins, IsShort};
+ghost use Rattle.block_laws.specs.Runnable.{IsRunnable};
+ghost use Rattle.guest_runs.specs.Beginning.{Begins};
 ghost use Rattle.guest_threads.specs.Seated.{AllSeated, Seated};
 ghost use Rattle.gate_port.specs.Gate.{calls_made, faults_of, room_of};
 
@@ -68,7 +69,7 @@ fn run_both<R: Threads + Wait + Sync>(
 /// A guest of two processors, with a pair of ports that meet.
 fn gated(alloc: Global) -> Result<(World, Vec<GatePort>), Fail>
     ensures { IfOk result (λ g. (scripts : List (List CommandValue)) →
-        length scripts ≡ 2 → All IsShort scripts → Begins calls_made g.0 scripts g.1.items) }
+        length scripts ≡ 2 → All IsRunnable scripts → Begins calls_made g.0 scripts g.1.items) }
 {
     let (one, other) = GatePort::pair(alloc)?;
     let mut ports = vec![in alloc; one, other]?;
@@ -82,7 +83,7 @@ fn gated(alloc: Global) -> Result<(World, Vec<GatePort>), Fail>
 
 /// The script of an acceptance of one page.
 fn accept_at(alloc: Global, start: u64) -> Result<Script, AllocError>
-    ensures { IfOk result (λ script. IsShort script) }
+    ensures { IfOk result (λ script. IsRunnable script) }
 {
     let len = 0x1000;
     Ok(Items::from_vec(vec![in alloc; Command::Accept { start, len }]?))
@@ -91,7 +92,7 @@ fn accept_at(alloc: Global, start: u64) -> Result<Script, AllocError>
 /// Two processors accept pages of different units.
 fn apart(alloc: Global) -> Result<Scripts, AllocError>
     ensures count { IfOk result (λ scripts. length scripts ≡ 2) }
-    ensures short { IfOk result (λ scripts. All IsShort scripts) }
+    ensures runnable { IfOk result (λ scripts. All IsRunnable scripts) }
 {
     let (near, far) = (accept_at(alloc, 0x40_0000)?, accept_at(alloc, 0x100_0000)?);
     Ok(Items::from_vec(vec![in alloc; near, far]?))

@@ -17,9 +17,9 @@ use std::thread::Threads;
 /// Runs a script on each processor of a world on threads, one for each processor, until every command has its reply. The processors
 /// meet in the lock of the memory alone. Tells what is recorded, and the final runs of pages.
 ///
-/// There are 1 to 64 scripts, one for each processor of the boot, of at most 2,048 commands on ranges of memory. The ports are at
-/// least as many; processor n runs on port n, and boot made its calls on the first. Whatever the answer, the ports stand in their
-/// places again.
+/// There are 1 to 64 scripts, one for each processor of the boot, of at most 2,048 commands, which are about ranges of memory and
+/// about blocks. The ports are at least as many; processor n runs on port n, and boot made its calls on the first. Whatever the
+/// answer, the ports stand in their places again.
 ///
 /// An error comes only where memory runs out; the ports' calls are then those of a legal history of the scripts, which needn't be
 /// whole. It waits for the threads, and that these get on isn't promised.

@@ -1,6 +1,6 @@
 //! Processors on their ports: how they come to them, and what they leave.
 ghost use Rattle.std.specs.Prelude.{◌≡◌, ◌++◌, ◌+◌, ◌≤◌, List, [], All, IfOk, OnErr, length, map, reverse, vec_len, vec_capacity};
-ghost use Rattle.event_core.specs.RangedScripts.{IsRanged};
+ghost use Rattle.block_laws.specs.Runnable.{IsRunnable};
 ghost use Rattle.memory_core.specs.Value.{MemoryValue};
 ghost use Rattle.guest_steps.specs.Standing.{Stands};
 ghost use Rattle.guest_cpu.specs.Standing.{CpuStands, seen_by};
@@ -33,7 +33,7 @@ pub(crate) fn start_all<P: Port>(
 ) -> Result<Vec<Cpu<P>>, AllocError>
     requires few { length scripts ≤ 64 }
     requires enough { length scripts ≤ vec_len ports.old }
-    requires ranged { All (All IsRanged) scripts }
+    requires runnable { All IsRunnable scripts }
     ensures count { IfOk result (λ all. vec_len all ≡ length scripts) }
     ensures ports { IfOk result (λ all.
         ports.old.items ≡ ports_of all.items ++ reverse ports.new.items) }

@@ -1,8 +1,10 @@
 //! Processors whose ranges meet, by turns and on threads.
 ghost use Rattle.std.specs.Prelude.{◌≡◌, ◌≤◌, ◌<◌, ◌^◌, [], List, All, IfOk, length};
 ghost use Rattle.event_core.specs.declared.command.Command.{Command as CommandValue};
-ghost use Rattle.event_core.specs.RangedScripts.{IsRanged};
-ghost use Rattle.guest_runs.specs.Beginning.{Begins, IsShort};
+ghost use Rattle.event_core.specs.ReadableScript.{IsReadable, bytes_named};
+ghost use Rattle.block_laws.specs.BlockScripts.{IsOfBlocks};
+ghost use Rattle.block_laws.specs.Runnable.{IsRunnable};
+ghost use Rattle.guest_runs.specs.Beginning.{Begins};
 
 use crate::{run_threads, turns};
 use event_core::{Command, Order, Recorded, Reply, Runs, Script, Scripts};
@@ -44,7 +46,7 @@ fn guest_of(
     requires one { 0 < cpus }
     requires few { cpus ≤ 64 }
     ensures { IfOk result (λ g. (scripts : List (List CommandValue)) →
-        length scripts ≡ cpus → All IsShort scripts →
+        length scripts ≡ cpus → All IsRunnable scripts →
         Begins (⟦<MemPort as Port>⟧.made) g.0 scripts g.1.items) }
 {
     let first = 1024;
@@ -66,7 +68,9 @@ fn guest_of(
 fn accept(first: u64, count: u64) -> Command
     requires first { first < 512 }
     requires count { count < 512 }
-    ensures { IsRanged result }
+    ensures readable { IsReadable result }
+    ensures of_blocks { IsOfBlocks result }
+    ensures unnamed { bytes_named result ≡ 0 }
 {
     Command::Accept {
         start: 2 * UNIT + UNIT * first,
@@ -76,8 +80,10 @@ fn accept(first: u64, count: u64) -> Command
 
 /// A script of one command.
 fn one(alloc: Global, command: Command) -> Result<Script, AllocError>
-    requires { IsRanged command }
-    ensures { IfOk result (λ script. IsShort script) }
+    requires readable { IsReadable command }
+    requires of_blocks { IsOfBlocks command }
+    requires unnamed { bytes_named command ≡ 0 }
+    ensures { IfOk result (λ script. IsRunnable script) }
 {
     Ok(Items::from_vec(vec![in alloc; command]?))
 }
@@ -85,7 +91,7 @@ fn one(alloc: Global, command: Command) -> Result<Script, AllocError>
 /// The scripts of two processors: the second one's unit is among those that the first one accepts.
 fn two_meeting(alloc: Global) -> Result<Scripts, AllocError>
     ensures count { IfOk result (λ scripts. length scripts ≡ 2) }
-    ensures short { IfOk result (λ scripts. All IsShort scripts) }
+    ensures runnable { IfOk result (λ scripts. All IsRunnable scripts) }
 {
     let (first, second) = (one(alloc, accept(0, 2))?, one(alloc, accept(1, 1))?);
     Ok(Items::from_vec(vec![in alloc; first, second]?))
@@ -123,7 +129,7 @@ fn two_meet_on_threads(rt: HostRuntime) -> Result<(), Fail> {
 fn one_of_many(alloc: Global, cpu: u64, round: u64) -> Result<Script, AllocError>
     requires cpu { cpu < 64 }
     requires round { round < 1000 }
-    ensures { IfOk result (λ script. IsShort script) }
+    ensures { IfOk result (λ script. IsRunnable script) }
 {
     let mut script = Vec::new(alloc);
     for number in 0..32 {
@@ -137,7 +143,7 @@ fn one_of_many(alloc: Global, cpu: u64, round: u64) -> Result<Script, AllocError
 fn many_meeting(alloc: Global, round: u64) -> Result<Scripts, AllocError>
     requires { round < 1000 }
     ensures count { IfOk result (λ scripts. length scripts ≡ 64) }
-    ensures short { IfOk result (λ scripts. All IsShort scripts) }
+    ensures runnable { IfOk result (λ scripts. All IsRunnable scripts) }
 {
     let mut scripts = Vec::new(alloc);
     for cpu in 0..64 {

@@ -1,23 +1,29 @@
-use Rattle.std.proofs.Common.{◌≡◌, ℕ, ◌+◌, ◌-◌, ◌*◌, ◌≤◌, ◌<◌, None, Some, List, [], ◌∷◌, ◌++◌, refl, sym, ◌∙◌, ap, subst, arith, append-nil}
+use Rattle.std.proofs.Common.{◌≡◌, ◌≢◌, ℕ, ◌≤◌, ◌<◌, true, None, Some, List, [], ◌∷◌, ◌++◌, refl, sym, ◌∙◌, ap, subst, arith, append-nil}
 use Rattle.std.specs.Prelude.{All, length, slice_get}
 use Rattle.std.proofs.lemmas.Option.{get_or_from_slice_get, slice_get_within}
 use Rattle.std.proofs.lemmas.List.Elements.{All-nil, All-get_or}
-use Rattle.guest_base.specs.declared.limits.TheConstants.{MAX_COMMANDS}
+use Rattle.guest_base.specs.declared.limits.TheConstants.{PAGE_END}
+use Rattle.guest_base.specs.declared.memory.Block.{Block}
 use Rattle.event_core.specs.declared.boot.Boot.{Boot}
 use Rattle.event_core.specs.declared.command.Command.{Command}
 use Rattle.event_core.specs.declared.entry.Entry.{Entry}
 use Rattle.event_core.specs.declared.module_call.ModuleCall.{ModuleCall}
 use Rattle.event_core.specs.Claims.{claim_of}
+use Rattle.event_core.specs.Cut.{cut}
 use Rattle.event_core.specs.Legal.{ComesBefore}
 use Rattle.event_core.specs.Locally.{Rising}
-use Rattle.event_core.specs.RangedScripts.{IsRanged}
+use Rattle.event_core.specs.Own.{own_of}
+use Rattle.event_core.specs.ReadableScript.{ReadableScript}
 use Rattle.event_core.specs.Turns.{entries_by}
 use Rattle.event_core.proofs.RisingLemmas.{pairs-nil}
+use Rattle.block_laws.specs.BlockScripts.{IsOfBlocks}
 use Rattle.memory_core.specs.Booted.{IsBooted}
+use Rattle.memory_core.specs.Owners.{is_owner}
 use Rattle.memory_core.specs.Value.{MemoryValue}
 use Rattle.guest_steps.specs.Running.{AtFirst, IsFresh}
-use Rattle.guest_steps.specs.Seen.{Seen, STEPS, first_seen}
-use Rattle.guest_steps.specs.Standing.{FollowsAll, PortTells, Stands, Together}
+use Rattle.guest_steps.specs.Seen.{Seen, first_seen}
+use Rattle.guest_steps.specs.Standing.{FollowsAll, OwnsHeld, PortTells, Stands, Together}
+use Rattle.guest_steps.proofs.AccountLemmas.{first-spent}
 
 -- Before the first entry all processors stand.
 
@@ -44,36 +50,35 @@ fresh-port boot number script made faults = record {
   stopped = tt;
 }
 
-counted : (commands : ℕ) → 0 + (commands - 0) * STEPS ≤ commands * STEPS
-counted commands =
-    let none : commands - 0 ≡ commands = omega arith in
-    let same : (commands - 0) * STEPS ≡ commands * STEPS = ap (λ n. n * STEPS) none in
-    omega (arith, same)
+no-blocks : (boot : Boot) (number : ℕ) (script : List Command) (made : List ModuleCall) (faults : ℕ) (memory : List Entry) → OwnsHeld (first_seen boot number script made faults) memory
+unfolding own_of
+no-blocks boot number script made faults memory = record { owned = All-nil (λ (b : Block). is_owner memory number b ≡ true); differ = pairs-nil (λ (a b : Block). a ≢ b) }
 
-fresh-stands : (boot : Boot) (number : ℕ) (script : List Command) (made : List ModuleCall) (faults : ℕ) (memory : MemoryValue) → memory.boot ≡ boot → IsBooted boot → number < boot.cpus
-    → All IsRanged script → length script ≤ MAX_COMMANDS → memory.entries ≡ [] → Stands (first_seen boot number script made faults) memory
-fresh-stands boot number script made faults memory same booted low ranged few none = record {
+fresh-stands : (boot : Boot) (number : ℕ) (script : List Command) (made : List ModuleCall) (faults : ℕ) (memory : MemoryValue) → memory.boot ≡ boot → IsBooted boot → length (cut boot) ≤ PAGE_END → number < boot.cpus
+    → All IsOfBlocks script → ReadableScript script → memory.entries ≡ [] → Stands (first_seen boot number script made faults) memory
+fresh-stands boot number script made faults memory same booted blocks low of_blocks readable none = record {
   same = same;
   booted = booted;
   cpu = low;
-  ranged = ranged;
-  few = few;
+  of_blocks = of_blocks;
+  readable = readable;
   mine = ap (entries_by number) none;
   named = All-nil (λ (e : Entry). e.cpu.0 ≡ number);
   rises = pairs-nil ComesBefore;
   follows = fresh-follows (first_seen boot number script made faults) memory.entries refl;
+  held = no-blocks boot number script made faults memory.entries;
   out = ap (λ es. claim_of boot es number) none ∙ no-claim boot number;
   port = fresh-port boot number script made faults;
-  spent = counted (length script);
+  spent = first-spent boot memory.entries (length script) blocks;
 }
 
--- each processor of a boot has its place, and a script of ranged commands
+-- each processor of a boot has its place, and a script of such commands
 abbrev pub AreProcessors : Boot → List Seen → Type 0
 AreProcessors boot all =
-    (cpu : ℕ) (c : Seen) → slice_get all cpu ≡ Some c → (c.number ≡ cpu) × (c.boot ≡ boot) × All IsRanged c.script × (length c.script ≤ MAX_COMMANDS)
+    (cpu : ℕ) (c : Seen) → slice_get all cpu ≡ Some c → (c.number ≡ cpu) × (c.boot ≡ boot) × All IsOfBlocks c.script × ReadableScript c.script
 
-pub beginning : (boot : Boot) (all : List Seen) (memory : MemoryValue) → IsBooted boot → length all ≡ boot.cpus → memory.boot ≡ boot → AtFirst all memory → AreProcessors boot all → Together boot all memory
-beginning boot all memory booted count same first each = record {
+pub beginning : (boot : Boot) (all : List Seen) (memory : MemoryValue) → IsBooted boot → length (cut boot) ≤ PAGE_END → length all ≡ boot.cpus → memory.boot ≡ boot → AtFirst all memory → AreProcessors boot all → Together boot all memory
+beginning boot all memory booted blocks count same first each = record {
   count = count;
   same = same;
   each = λ cpu c at.
@@ -84,7 +89,7 @@ beginning boot all memory booted count same first each = record {
         e.0,
         e.1,
         subst (λ (x : Seen). Stands x memory) (sym (all-got IsFresh all cpu c first.fresh at))
-            (fresh-stands c.boot c.number c.script c.made_before c.faults_before memory (same ∙ sym e.1) (subst IsBooted (sym e.1) booted) (omega (arith, number, within, count, cpus)) e.2 e.3 first.entries),
+            (fresh-stands c.boot c.number c.script c.made_before c.faults_before memory (same ∙ sym e.1) (subst IsBooted (sym e.1) booted) (subst (λ (b : Boot). length (cut b) ≤ PAGE_END) (sym e.1) blocks) (omega (arith, number, within, count, cpus)) e.2 e.3 first.entries),
       );
   named = subst (All (λ (x : Entry). x.cpu.0 < boot.cpus)) (sym first.entries) (All-nil (λ (x : Entry). x.cpu.0 < boot.cpus));
   rises = subst (λ es. Rising es) (sym first.entries) (pairs-nil ComesBefore);

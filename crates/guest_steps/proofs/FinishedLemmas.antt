@@ -1,4 +1,4 @@
-use Rattle.std.proofs.Common.{◌≡◌, ℕ, ◌+◌, ◌≤◌, ◌<◌, cond, Option, None, Some, List, [], ◌∷◌, ◌++◌, refl, sym, ◌∙◌, ap, subst, arith, map, append_assoc, append-nil, slice_get}
+use Rattle.std.proofs.Common.{◌≡◌, ℕ, ◌+◌, ◌≤◌, ◌<◌, Bool, true, false, cond, Option, None, Some, List, [], ◌∷◌, ◌++◌, refl, sym, ◌∙◌, ap, subst, arith, map, append_assoc, append-nil, slice_get}
 use Rattle.std.specs.Prelude.{All, length, is_some}
 use Rattle.std.specs.Option.{option_and_then, option_map}
 use Rattle.std.proofs.lemmas.List.{map-append}
@@ -6,12 +6,14 @@ use Rattle.std.proofs.lemmas.List.Sums.{count_by-le-length, sum_by-append}
 use Rattle.std.proofs.lemmas.Option.{slice_get-map, slice_get_within}
 use Rattle.event_core.specs.declared.boot.Boot.{Boot}
 use Rattle.event_core.specs.declared.command.Command.{Command}
+use Rattle.event_core.specs.declared.command.Command.TheVariants as command
 use Rattle.event_core.specs.declared.entry.Entry.{Entry}
 use Rattle.event_core.specs.declared.reply.Reply.{Reply}
 use Rattle.event_core.specs.Calls.{calls_in}
 use Rattle.event_core.specs.Holdings as holdings
 use Rattle.event_core.specs.Moved.{Moved}
 use Rattle.event_core.specs.Next.{Step, next_step, step_of}
+use Rattle.event_core.specs.OwnRows.{is_inside}
 use Rattle.event_core.specs.Own.{own_of, present, replied, script_of}
 use Rattle.event_core.specs.Refusals.{refusal_of}
 use Rattle.event_core.proofs.RisingLemmas.{all-middle}
@@ -22,7 +24,7 @@ use Rattle.page_module.specs.Spans.{Taken}
 use Rattle.guest_steps.specs.declared.processor.Need.{Need}
 use Rattle.guest_steps.specs.declared.processor.Need.TheVariants as need
 use Rattle.guest_steps.specs.Running.{AllFinished}
-use Rattle.guest_steps.specs.Seen.{Seen, command_number, need_by, need_for, need_of, need_unless_refused, own_moved, present_command}
+use Rattle.guest_steps.specs.Seen.{Seen, command_number, need_by, need_for, need_of, need_of_load, need_unless_refused, need_unrefused, own_moved, own_now, present_command}
 use Rattle.guest_steps.specs.Standing.{Stands, Together, kept_by, scripts_of}
 use Rattle.guest_steps.proofs.AmongLemmas.{alone, alone-has}
 use Rattle.guest_steps.proofs.BeginningLemmas.{all-got}
@@ -32,13 +34,27 @@ use Rattle.guest_steps.proofs.TogetherLemmas.{list-some, past-none}
 
 -- ---- no command is left
 
-need-refused : (refusal : Option Reply) → need_unless_refused refusal ≡ need.Finished → ⊥
-need-refused None is = cc
-need-refused (Some refusal) is = cc
+need-load : (held : Option holdings.Holding) (off : ℕ) → need_of_load held off ≡ need.Finished → ⊥
+need-load None off is = cc
+need-load (Some h) off is = either (is_inside h.block off) is where
+  either : (inside : Bool) → cond inside need.Own need.Memory ≡ need.Finished → ⊥
+  either true is = cc
+  either false is = cc
 
-need-none : (boot : Boot) (own : holdings.Own) (command : Option Command) → need_for boot own command ≡ need.Finished → command ≡ None
+need-unrefused : (own : holdings.Own) (c : Command) → need_unrefused own c ≡ need.Finished → ⊥
+need-unrefused own (command.Read name off len) is = cc
+need-unrefused own (command.Write name off hex) is = cc
+need-unrefused own (command.Fill name off len byte) is = cc
+need-unrefused own (command.Load name off) is = need-load (holdings.block_named own name) off is
+need-unrefused own _ is = cc
+
+need-refused : (refusal : Option Reply) (unrefused : Need) → (unrefused ≡ need.Finished → ⊥) → need_unless_refused refusal unrefused ≡ need.Finished → ⊥
+need-refused None unrefused not is = not is
+need-refused (Some refusal) unrefused not is = cc
+
+need-none : (boot : Boot) (own : holdings.Own) (c : Option Command) → need_for boot own c ≡ need.Finished → c ≡ None
 need-none boot own None is = refl
-need-none boot own (Some command) is = absurd (need-refused (refusal_of boot own command) is)
+need-none boot own (Some c) is = absurd (need-refused (refusal_of boot own c) (need_unrefused own c) (need-unrefused own c) is)
 
 need-rests : (out : Option Taken) (at_rest : Need) → need_by out at_rest ≡ need.Finished → at_rest ≡ need.Finished
 need-rests None at_rest is = is
@@ -46,8 +62,8 @@ need-rests (Some span) at_rest is = cc
 
 pub finished-none : (c : Seen) → need_of c ≡ need.Finished → present_command c ≡ None
 finished-none c is =
-    need-none c.boot (own_of c.script (own_moved c)) (present_command c)
-    (need-rests c.out (need_for c.boot (own_of c.script (own_moved c)) (present_command c)) is)
+    need-none c.boot (own_now c) (present_command c)
+    (need-rests c.out (need_for c.boot (own_now c) (present_command c)) is)
 
 -- ---- no more replies than commands
 

@@ -1,7 +1,8 @@
-use Rattle.std.proofs.Common.{◌≡◌, ◌≢◌, ℕ, ◌≤◌, max, false, Option, None, Some, List, [], ◌∷◌, ◌++◌, refl, sym, ◌∙◌, ap, subst, arith, append-nil, append_assoc, cond}
-use Rattle.std.specs.Prelude.{fold, ◌==◌}
+use Rattle.std.proofs.Common.{◌≡◌, ◌≢◌, ℕ, ◌+◌, ◌*◌, ◌≤◌, max, false, Option, None, Some, List, [], ◌∷◌, ◌++◌, refl, sym, ◌∙◌, ap, subst, arith, append-nil, append_assoc, cond}
+use Rattle.std.specs.Prelude.{fold, length, ◌==◌}
 use Rattle.std.proofs.lemmas.Bool.{ne_eqb}
 use Rattle.std.proofs.lemmas.List.Elements.{All-head, All-tail, All-append, filter-append}
+use Rattle.guest_base.specs.declared.limits.TheConstants.{PAGE_END}
 use Rattle.event_core.specs.declared.boot.Boot.{Boot}
 use Rattle.event_core.specs.declared.entry.Entry.{Entry}
 use Rattle.event_core.specs.declared.entry.Place.{Place}
@@ -18,9 +19,12 @@ use Rattle.accept_sizes.specs.declared.accept.RunEnd.{RunEnd}
 use Rattle.memory_core.specs.Away.{NoneOf, BringsSince, FoundAgain}
 use Rattle.memory_core.specs.Steps.{BringsTo, HasStates, last_stamp}
 use Rattle.memory_core.specs.Value.{MemoryValue}
-use Rattle.guest_steps.specs.Seen.{Seen, Accepted}
+use Rattle.memory_core.specs.Waiting.{waiting_left}
+use Rattle.guest_steps.specs.Seen.{Seen, Accepted, STEPS, steps_left, steps_waiting}
 use Rattle.guest_steps.specs.Standing.{Claiming, IsAsHanded, IsOut, FollowsAll, StoodIn, Stands}
 use Rattle.guest_steps.specs.Steps.{without_reply}
+use Rattle.guest_steps.proofs.AccountLemmas.{waiting-fewer}
+use Rattle.guest_steps.proofs.OwnerLemmas.{held-found}
 
 -- A processor goes on standing while others make entries.
 
@@ -79,10 +83,10 @@ claiming-found c left found claim span boot f m =
       is_handed = f.handed ∙ m.is_handed;
       ticket = m.ticket;
       some = m.some;
-      start = m.start;
-      len = m.len;
       command = m.command;
+      present = m.present;
       fine = m.fine;
+      claims = m.claims;
       clock = omega (arith, low, more, is);
     }
 
@@ -113,19 +117,29 @@ out-found c left found boot f (Some span) None is =
 out-found c left found boot f (Some span) (Some done) is =
     (is.0, claiming-found c left found is.0 span boot f is.1, brings-found c.number left found is.0 span done.calls done.end f is.2)
 
+fewer-spent : (c : Seen) (left found : MemoryValue) → Stands c left → FoundAgain c.number left found → length c.entries + steps_left c + steps_waiting c.boot found.entries ≤ (length c.script + PAGE_END) * STEPS
+fewer-spent c left found s f =
+    let spent = s.spent in
+    let less = waiting-fewer c.boot left.entries found.entries (subst (λ (b : Boot). waiting_left b found.entries ≤ waiting_left b left.entries) s.same f.waiting) in
+    added (length c.entries + steps_left c) (steps_waiting c.boot left.entries) (steps_waiting c.boot found.entries) ((length c.script + PAGE_END) * STEPS) spent less
+  where
+    added : (n w u x : ℕ) → n + w ≤ x → u ≤ w → n + u ≤ x
+    added n w u x spent less = omega (arith, spent, less)
+
 -- a processor stands before the memory as it finds it again
 pub found-standing : (c : Seen) (left found : MemoryValue) → Stands c left → FoundAgain c.number left found → Stands c found
 found-standing c left found s f = record {
   same = f.boot ∙ s.same;
   booted = s.booted;
   cpu = s.cpu;
-  ranged = s.ranged;
-  few = s.few;
+  of_blocks = s.of_blocks;
+  readable = s.readable;
   mine = ap (entries_by c.number) f.longer ∙ entries-stay c.number left.entries f.rest f.others ∙ s.mine;
   named = s.named;
   rises = s.rises;
   follows = follows-found c left.entries found.entries f.rest f.longer s.follows;
+  held = held-found c left.entries found.entries f.rest f.longer f.others s.held;
   out = out-found c left found s.same f c.out c.done s.out;
   port = s.port;
-  spent = s.spent;
+  spent = fewer-spent c left found s f;
 }

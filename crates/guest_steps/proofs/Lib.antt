@@ -1,9 +1,14 @@
 pub mod AccountLemmas
 pub mod AmongLemmas
 pub mod BeginningLemmas
+pub mod BlockedLemmas
 pub mod FinishedLemmas
 pub mod FoundLemmas
+pub mod HeldLemmas
 pub mod HistoryLemmas
+pub mod OwnStepLemmas
+pub mod OwnerLemmas
+pub mod PlainLemmas
 pub mod SortLemmas
 pub mod StampLemmas
 pub mod StepLemmas

@@ -3,7 +3,7 @@ use Rattle.std.specs.Prelude.{All, filter, fold, length, ◌==◌}
 use Rattle.std.proofs.lemmas.Bool.{eq-eqb}
 use Rattle.std.proofs.lemmas.List.{length-append, length-map}
 use Rattle.std.proofs.lemmas.List.Elements.{All-nil, All-cons, All-head, All-tail, All-push, All-weaker, All-filter, All-map}
-use Rattle.guest_base.specs.declared.limits.TheConstants.{MAX_COMMANDS, MAX_CPUS}
+use Rattle.guest_base.specs.declared.limits.TheConstants.{MAX_COMMANDS, MAX_CPUS, PAGE_END}
 use Rattle.event_core.specs.declared.boot.Boot.{Boot}
 use Rattle.event_core.specs.declared.command.Command.{Command}
 use Rattle.event_core.specs.declared.entry.Entry.{Entry}
@@ -112,22 +112,23 @@ memory-by boot all memory t cpu (Some c) at =
     (All-map P (λ (m : Moved). m.entry) (at_place Memory (own_moved c)) (there-most most (λ (m : Moved). same_place Memory m.entry.place) (own_moved c) (own-most boot all memory t cpu c at))))
 
 -- no more entries than the steps of all scripts
-list-few : (boot : Boot) (all : List Seen) (memory : MemoryValue) → Together boot all memory → (cpu : ℕ) (list : List Entry) → slice_get (lists_of all) cpu ≡ Some list → length list ≤ MAX_COMMANDS * STEPS
+list-few : (boot : Boot) (all : List Seen) (memory : MemoryValue) → Together boot all memory → (cpu : ℕ) (list : List Entry) → slice_get (lists_of all) cpu ≡ Some list → length list ≤ (MAX_COMMANDS + PAGE_END) * STEPS
 list-few boot all memory t cpu list at =
     let o = list-owner all cpu list at in
     let c = o.0 in
     let stands = (t.each cpu c o.1).2 in
     let spent = stands.spent in
-    let most = fewer (length c.script) MAX_COMMANDS STEPS stands.few in
+    let few = stands.readable.few in
+    let most = fewer (length c.script + PAGE_END) (MAX_COMMANDS + PAGE_END) STEPS (omega (arith, few)) in
     let same : length c.entries ≡ length list = ap (λ (es : List Entry). length es) o.2 in
     omega (arith, spent, most, same)
 
 pub entries-few : (boot : Boot) (all : List Seen) (memory : MemoryValue) (t : Together boot all memory) → boot.cpus ≤ MAX_CPUS → length (all-entries boot all memory t).entries < 2 ^ 64
 entries-few boot all memory t cpus =
     let one = all-entries boot all memory t in
-    let long = one.long (MAX_COMMANDS * STEPS) (list-few boot all memory t) in
+    let long = one.long ((MAX_COMMANDS + PAGE_END) * STEPS) (list-few boot all memory t) in
     let count : length (lists_of all) ≡ boot.cpus = length-map all (λ (c : Seen). c.entries) ∙ t.count in
-    let most = fewer (length (lists_of all)) MAX_CPUS (MAX_COMMANDS * STEPS) (omega (arith, count, cpus)) in
+    let most = fewer (length (lists_of all)) MAX_CPUS ((MAX_COMMANDS + PAGE_END) * STEPS) (omega (arith, count, cpus)) in
     omega (arith, long, most)
 
 own-stamp-low : (boot : Boot) (all : List Seen) (memory : MemoryValue) (t : Together boot all memory) (cpu : ℕ) (c : Seen) → slice_get all cpu ≡ Some c

@@ -1,4 +1,4 @@
-use Rattle.std.proofs.Common.{◌≡◌, ◌≢◌, ℕ, Option, None, Some, List, [], ◌∷◌, ◌++◌, refl, sym, ◌∙◌, ap, map, append-nil}
+use Rattle.std.proofs.Common.{◌≡◌, ◌≢◌, ℕ, Option, None, Some, List, [], ◌∷◌, ◌++◌, refl, sym, ◌∙◌, ap, arith, map, append-nil}
 use Rattle.std.specs.Prelude.{All}
 use Rattle.std.specs.Option.{option_map}
 use Rattle.std.proofs.lemmas.List.{map-append}
@@ -13,6 +13,7 @@ use Rattle.claim_lock.specs.Knows.{MayGive, IsOf}
 use Rattle.memory_core.specs.Away.{FoundAgain, NoneOf}
 use Rattle.memory_core.specs.UnderLock.{fixed_of, part_of, moved_of, unmoved, claim_part, pages_out, room_kept}
 use Rattle.memory_core.specs.Value.{MemoryValue, Handed, handed_to}
+use Rattle.memory_core.specs.Waiting.{waiting_left}
 use Rattle.guest_steps.specs.Seen.{Seen}
 use Rattle.guest_steps.specs.Steps.{MakesIn, RoomAlone, memory_by, without_reply}
 use Rattle.guest_steps.proofs.FoundLemmas.{claim-stays}
@@ -47,6 +48,7 @@ makes-leave-others old new before after other m differ =
       others = none;
       claim = ap (λ b. claim_of b after.entries other) m.boot ∙ ap (λ es. claim_of before.boot es other) longer ∙ claim-stays before.boot other before.entries (added_by m.entry.place m.entry) none;
       handed = m.others.handed other differ;
+      waiting = m.others.waiting;
     }
 
 -- room alone: everyone finds the memory as it was
@@ -58,6 +60,7 @@ room-leaves before after any r = record {
   others = All-nil (λ (e : Entry). e.cpu.0 ≢ any);
   claim = ap (λ b. claim_of b after.entries any) r.boot ∙ ap (λ es. claim_of before.boot es any) r.entries;
   handed = ap (λ out. handed_to (with_out out) any) r.out;
+  waiting = (let same : waiting_left before.boot after.entries ≡ waiting_left before.boot before.entries = ap (waiting_left before.boot) r.entries in omega (arith, same));
 }
   where
     with_out : List (Option Handed) → MemoryValue

@@ -1,17 +1,20 @@
-use Rattle.std.specs.Prelude.{ℕ, List, [], Option, None, Some, ◌+◌, ◌-◌, ◌*◌, length, map, slice_get}
+use Rattle.std.specs.Prelude.{ℕ, List, [], Option, None, Some, ◌+◌, ◌-◌, ◌*◌, length, map, slice_get, if◌then◌else◌}
 use Rattle.guest_base.specs.declared.limits.TheConstants.{PAGE_END}
 use Rattle.event_core.specs.declared.boot.Boot.{Boot}
 use Rattle.event_core.specs.declared.command.Command.{Command}
+use Rattle.event_core.specs.declared.command.Command.TheVariants.{Read, Write, Fill, Load}
 use Rattle.event_core.specs.declared.entry.Entry.{Entry}
 use Rattle.event_core.specs.declared.module_call.ModuleCall.{ModuleCall}
 use Rattle.event_core.specs.declared.reply.Reply.{Reply}
-use Rattle.event_core.specs.Holdings.{Own}
+use Rattle.event_core.specs.Holdings.{Holding, Own, block_named}
 use Rattle.event_core.specs.Moved.{Moved}
 use Rattle.event_core.specs.Own.{replied, own_of}
+use Rattle.event_core.specs.OwnRows.{is_inside}
 use Rattle.event_core.specs.Refusals.{refusal_of}
 use Rattle.page_module.specs.Spans.{Taken}
 use Rattle.accept_sizes.specs.declared.accept.RunEnd.{RunEnd}
 use Rattle.memory_core.specs.UnderLock.{unmoved}
+use Rattle.memory_core.specs.Waiting.{waiting_left}
 use Rattle.guest_steps.specs.declared.processor.Need.{Need}
 use Rattle.guest_steps.specs.declared.processor.Need.TheVariants as need
 
@@ -64,14 +67,32 @@ command_number c = replied (own_moved c)
 abbrev pub present_command : Seen → Option Command
 present_command c = slice_get c.script (command_number c)
 
--- a refused command ends by the processor alone; any other takes a step of the memory
-abbrev pub need_unless_refused : Option Reply → Need
-need_unless_refused (Some refusal) = need.Own
-need_unless_refused None = need.Memory
+-- what the processor has
+abbrev pub own_now : Seen → Own
+own_now c = own_of c.script (own_moved c)
+
+-- a load that ends in its block needs nothing beside the processor
+abbrev pub need_of_load : Option Holding → ℕ → Need
+need_of_load None off = need.Memory
+need_of_load (Some h) off = if is_inside h.block off then need.Own else need.Memory
+
+-- nor does a command that reads or writes a block's bytes; any other takes a step of the memory
+abbrev pub need_unrefused : Own → Command → Need
+need_unrefused own (Read name off len) = need.Own
+need_unrefused own (Write name off hex) = need.Own
+need_unrefused own (Fill name off len byte) = need.Own
+need_unrefused own (Load name off) = need_of_load (block_named own name) off
+need_unrefused own _ = need.Memory
+
+-- a refused command ends by the processor alone
+abbrev pub need_unless_refused : Option Reply → Need → Need
+need_unless_refused (Some refusal) unrefused = need.Own
+need_unless_refused None unrefused = unrefused
 
 abbrev pub need_for : Boot → Own → Option Command → Need
 need_for boot own None = need.Finished
-need_for boot own (Some command) = need_unless_refused (refusal_of boot own command)
+need_for boot own (Some command) =
+    need_unless_refused (refusal_of boot own command) (need_unrefused own command)
 
 -- with an open claim the next step is the claim's report
 abbrev pub need_by : Option Taken → Need → Need
@@ -80,10 +101,10 @@ need_by None at_rest = at_rest
 
 -- what a processor's next step needs
 abbrev pub need_of : Seen → Need
-need_of c =
-    need_by c.out (need_for c.boot (own_of c.script (own_moved c)) (present_command c))
+need_of c = need_by c.out (need_for c.boot (own_now c) (present_command c))
 
--- the most steps of a command, and one more: its claim, and a report for each page of memory
+-- The most steps of a command, and one more: its claim, and a report for each page of memory. Those
+-- of an allocation that claims a block and makes it accepted are the block's.
 abbrev pub STEPS : ℕ
 STEPS = PAGE_END + 2
 
@@ -96,3 +117,8 @@ left_by commands number (Some span) =
 
 abbrev pub steps_left : Seen → ℕ
 steps_left c = left_by (length c.script) (command_number c) c.out
+
+-- The steps for the blocks that aren't accepted yet, at most: an allocation whose claim ends well
+-- looks again, but then one block fewer is left.
+abbrev pub steps_waiting : Boot → List Entry → ℕ
+steps_waiting boot memory = waiting_left boot memory * STEPS

@@ -1,31 +1,35 @@
-use Rattle.std.specs.Prelude.{ℕ, List, [], ◌∷◌, ◌++◌, Option, None, Some, ◌≡◌, ◌≢◌, ◌+◌, ◌*◌, ◌≤◌, ◌<◌, All, length, map, slice_get, unwrap_or}
+use Rattle.std.specs.Prelude.{ℕ, List, [], ◌∷◌, ◌++◌, Option, None, Some, true, ◌≡◌, ◌≢◌, ◌+◌, ◌*◌, ◌≤◌, ◌<◌, All, AllPairs, length, map, slice_get, unwrap_or}
 use Rattle.guest_base.specs.Counts.{Rose}
-use Rattle.guest_base.specs.declared.limits.TheConstants.{MAX_COMMANDS}
+use Rattle.guest_base.specs.declared.limits.TheConstants.{PAGE_END}
+use Rattle.guest_base.specs.declared.memory.Block.{Block}
 use Rattle.event_core.specs.declared.boot.Boot.{Boot}
 use Rattle.event_core.specs.declared.command.Command.{Command}
-use Rattle.event_core.specs.declared.command.Command.TheVariants.{Accept}
+use Rattle.event_core.specs.declared.command.Command.TheVariants.{Alloc, Accept}
 use Rattle.event_core.specs.declared.entry.Entry.{Entry}
 use Rattle.event_core.specs.declared.entry.Place.{Place}
 use Rattle.event_core.specs.declared.entry.Place.TheVariants.{Memory, Area, Own}
 use Rattle.event_core.specs.declared.module_call.ModuleCall.{ModuleCall}
 use Rattle.event_core.specs.Calls.{calls_of}
 use Rattle.event_core.specs.Claims.{Claimed, claim_of}
+use Rattle.event_core.specs.Holdings.{Holding}
 use Rattle.event_core.specs.Legal.{at_place, greatest_stamp}
 use Rattle.event_core.specs.Locally.{Rising, FollowsLocally}
 use Rattle.event_core.specs.Moved.{Moved, entries_of}
-use Rattle.event_core.specs.RangedScripts.{IsRanged}
-use Rattle.event_core.specs.Refusals.{memory_range_refusal}
+use Rattle.event_core.specs.ReadableScript.{ReadableScript}
+use Rattle.event_core.specs.Refusals.{refusal_of}
 use Rattle.event_core.specs.Splits.{Lists}
 use Rattle.event_core.specs.Turns.{entries_by}
 use Rattle.page_module.specs.Spans.{Taken}
+use Rattle.block_laws.specs.BlockScripts.{IsOfBlocks}
 use Rattle.accept_sizes.specs.Ends.{stopped_at}
 use Rattle.memory_core.specs.Away.{BringsSince, NoneOf}
 use Rattle.memory_core.specs.Booted.{IsBooted}
+use Rattle.memory_core.specs.Owners.{is_owner}
 use Rattle.memory_core.specs.Steps.{HasStates, last_stamp}
 use Rattle.memory_core.specs.UnderLock.{unmoved}
 use Rattle.memory_core.specs.Value.{MemoryValue, Handed, handed_to}
 use Rattle.guest_steps.specs.Replies.{FaultsTold, calls_reported}
-use Rattle.guest_steps.specs.Seen.{Seen, Accepted, STEPS, own_moved, present_command, steps_left}
+use Rattle.guest_steps.specs.Seen.{Seen, Accepted, STEPS, own_moved, own_now, present_command, steps_left, steps_waiting}
 use Rattle.guest_steps.specs.Steps.{HaveScript, without_reply}
 
 -- How a processor stands before the memory (own rule).
@@ -50,8 +54,14 @@ FollowsAll c memory =
     × ((scripts : List (List Command)) → HaveScript scripts c
     → FollowsLocally c.boot scripts (map unmoved before) there (unmoved entry))
 
--- A claim of the processor is open, and the span is out for its run. It stands in an acceptance
--- that isn't refused. Its last entry is the memory's.
+-- an acceptance of a range claims for no block, and an allocation for a waiting one
+abbrev pub ClaimsFor : Command → Option Block → Type 0
+ClaimsFor (Accept start len) block = block ≡ None
+ClaimsFor (Alloc name order) block = block ≢ None
+ClaimsFor _ block = ⊥
+
+-- A claim of the processor is open, and the span is out for its run. It is for the processor's
+-- present command, which isn't refused. Its last entry is the memory's.
 pub record Claiming (c : Seen) (memory : MemoryValue) (claim : Claimed) (span : Taken)
     : Type 0 where
   pub claimed : claim_of c.boot memory.entries c.number ≡ Some claim
@@ -59,10 +69,10 @@ pub record Claiming (c : Seen) (memory : MemoryValue) (claim : Claimed) (span : 
   pub is_handed : handed_to memory c.number ≡ Some handed
   pub ticket : handed.ticket ≡ span.ticket
   pub some : 0 < claim.run.count
-  pub start : ℕ
-  pub len : ℕ
-  pub command : present_command c ≡ Some (Accept start len)
-  pub fine : memory_range_refusal start len ≡ None
+  pub command : Command
+  pub present : present_command c ≡ Some command
+  pub fine : refusal_of c.boot (own_now c) command ≡ None
+  pub claims : ClaimsFor command claim.block
   pub clock : greatest_stamp (own_moved c) ≤ last_stamp memory.entries
 
 -- the span has the states in which the memory handed it out, and no entry since is the processor's
@@ -104,22 +114,34 @@ pub record PortTells (c : Seen) : Type 0 where
   pub failed : FaultsTold c.faults_before c.entries c.faults
   pub stopped : StopTold c.faults_before c.done c.faults
 
--- A processor stands before a memory of its boot. The memory has of it what its entries have there;
--- these are its own, they rise, and each follows where it was made. What is out with it is what the
--- memory handed out for its open claim.
+-- the blocks that the processor has
+abbrev pub blocks_had : Seen → List Block
+blocks_had c = map (λ (h : Holding). h.block) (own_now c).blocks
+
+-- it owns these by its entries in the memory, and has none of them twice
+pub record OwnsHeld (c : Seen) (memory : List Entry) : Type 0 where
+  pub owned : All (λ (block : Block). is_owner memory c.number block ≡ true) (blocks_had c)
+  pub differ : AllPairs (λ (a b : Block). a ≢ b) (blocks_had c)
+
+-- A processor stands before a memory of its boot. The memory has of it what its entries have there.
+-- These are its own, they rise, and each follows where it was made. What is out with it is what the
+-- memory handed out for its open claim. Its entries, with the steps that are left, are at most the
+-- steps of its commands and of all blocks.
 pub record Stands (c : Seen) (memory : MemoryValue) : Type 0 where
   pub same : memory.boot ≡ c.boot
   pub booted : IsBooted c.boot
   pub cpu : c.number < c.boot.cpus
-  pub ranged : All IsRanged c.script
-  pub few : length c.script ≤ MAX_COMMANDS
+  pub of_blocks : All IsOfBlocks c.script
+  pub readable : ReadableScript c.script
   pub mine : entries_by c.number memory.entries ≡ entries_of (at_place Memory (own_moved c))
   pub named : All (λ (e : Entry). e.cpu.0 ≡ c.number) c.entries
   pub rises : Rising c.entries
   pub follows : FollowsAll c memory.entries
+  pub held : OwnsHeld c memory.entries
   pub out : IsOut c memory c.out c.done
   pub port : PortTells c
-  pub spent : length c.entries + steps_left c ≤ length c.script * STEPS
+  pub spent : length c.entries + steps_left c + steps_waiting c.boot memory.entries
+      ≤ (length c.script + PAGE_END) * STEPS
 
 -- all processors of a boot stand before its memory, each at the place of its number, and the
 -- memory's entries are theirs

@@ -1,23 +1,22 @@
-use Rattle.std.specs.Prelude.{ℕ, List, [], ◌∷◌, ◌++◌, Option, None, Some, false, true, ◌≡◌, ◌≢◌, ◌⊎◌, ◌≤◌, ◌<◌, is_none, map, max, slice_get}
+use Rattle.std.specs.Prelude.{ℕ, List, [], ◌∷◌, ◌++◌, Option, None, Some, false, true, ◌≡◌, ◌≢◌, ◌⊎◌, ◌+◌, ◌≤◌, ◌<◌, is_none, map, max, slice_get}
 use Rattle.std.specs.Option.{option_map}
 use Rattle.event_core.specs.declared.command.Command.{Command}
-use Rattle.event_core.specs.declared.command.Command.TheVariants.{Accept}
 use Rattle.event_core.specs.declared.entry.Entry.{Entry}
 use Rattle.event_core.specs.declared.entry.Place.{Place}
 use Rattle.event_core.specs.declared.entry.Place.TheVariants.{Memory, Area, Own}
-use Rattle.event_core.specs.Claims.{in_the_way}
+use Rattle.event_core.specs.declared.event.Event.TheVariants as event
+use Rattle.event_core.specs.declared.reply.Reply.{Reply}
+use Rattle.event_core.specs.Claims.{claim_of}
 use Rattle.event_core.specs.Legal.{greatest_stamp}
 use Rattle.event_core.specs.Locally.{FollowsLocally}
-use Rattle.event_core.specs.Next.{next_step}
-use Rattle.event_core.specs.Refusals.{memory_range_refusal}
-use Rattle.event_core.specs.Units.{guarded_units}
+use Rattle.event_core.specs.Next.{Step, next_step}
 use Rattle.page_module.specs.Spans.{Taken}
 use Rattle.page_module.specs.declared.ticket.Ticket.{Ticket}
 use Rattle.memory_core.specs.Answers.{OthersKeep}
 use Rattle.memory_core.specs.Steps.{last_stamp}
 use Rattle.memory_core.specs.UnderLock.{unmoved}
 use Rattle.memory_core.specs.Value.{MemoryValue}
-use Rattle.guest_steps.specs.Seen.{Seen, own_moved, present_command, steps_left}
+use Rattle.guest_steps.specs.Seen.{Seen, own_moved, steps_left, steps_waiting}
 
 -- What a step of a processor does (own rule).
 
@@ -44,6 +43,10 @@ memory_after memory entry = memory_by entry.place memory entry
 abbrev pub HaveScript : List (List Command) → Seen → Type 0
 HaveScript scripts c = slice_get scripts c.number ≡ Some c.script
 
+-- a processor's own event, which ends its command with a reply
+abbrev pub own_reply : Reply → Step
+own_reply reply = record { event = event.Own; reply = Some reply }
+
 -- whether a processor has no next event, before the memory's entries
 abbrev pub IsIdle : Seen → List Entry → Type 0
 IsIdle c memory =
@@ -64,15 +67,14 @@ pub record IsNext (c : Seen) (memory : List Entry) (entry : Entry) : Type 0 wher
       (map unmoved (entries_there entry.place memory)) (unmoved entry)
   pub busy : IsBusy c memory
 
--- the processor's present command is an acceptance, and an open claim is in the way
+-- The processor has no open claim and no next event, and another one has an open claim: it is in
+-- the way of the units that would be claimed, or for a block that an allocation waits for.
 pub record IsBlocked (c : Seen) (memory : List Entry) : Type 0 where
   pub rests : c.out ≡ None
-  pub start : ℕ
-  pub len : ℕ
-  pub command : present_command c ≡ Some (Accept start len)
-  pub fine : memory_range_refusal start len ≡ None
+  pub idle : IsIdle c memory
   pub other : ℕ
-  pub way : in_the_way c.boot memory (guarded_units c.boot start len) ≡ Some other
+  pub among : other < c.boot.cpus
+  pub claimed : claim_of c.boot memory other ≢ None
 
 -- the same processor, whose port was asked nothing
 pub record IsUnasked (old new : Seen) : Type 0 where
@@ -85,13 +87,14 @@ pub record IsUnasked (old new : Seen) : Type 0 where
   pub faults : new.faults ≡ old.faults
 
 -- A processor made an entry, its next one before the memory's entries. What was done is reported,
--- and fewer steps are left.
+-- and fewer steps are left, with those for the blocks that aren't accepted yet.
 pub record Makes (old new : Seen) (memory : List Entry) (entry : Entry) : Type 0 where
   pub next : IsNext old memory entry
   pub entries : new.entries ≡ old.entries ++ entry ∷ []
   pub same : IsUnasked old new
   pub done : new.done ≡ None
-  pub less : steps_left new < steps_left old
+  pub less : steps_left new + steps_waiting old.boot (memory_after memory entry)
+      < steps_left old + steps_waiting old.boot memory
 
 -- the entry was made over the memory, which keeps it where it takes place there; what is out with
 -- others stays

@@ -1,27 +1,51 @@
 //! Why the entries of processors that stand together are one history, and what keeps them standing.
-ghost use Rattle.std.specs.Prelude.{ℕ, List, Some, ◌≡◌, ◌≤◌, ◌<◌, ◌^◌, All, length, slice_get, slice_set};
-ghost use Rattle.guest_base.specs.declared.limits.TheConstants.{MAX_COMMANDS};
+ghost use Rattle.std.specs.Prelude.{ℕ, List, None, Some, ◌≡◌, ◌≢◌, ◌≤◌, ◌<◌, ◌^◌, All, length, slice_get, slice_set};
+ghost use Rattle.guest_base.specs.declared.limits.TheConstants.{PAGE_END};
 ghost use Rattle.event_core.specs.declared.boot.Boot.{Boot as BootValue};
+ghost use Rattle.event_core.specs.declared.command.Command.{Command};
 ghost use Rattle.event_core.specs.declared.entry.Entry.{Entry as EntryValue};
+ghost use Rattle.event_core.specs.declared.module_call.ModuleCall.{ModuleCall};
+ghost use Rattle.event_core.specs.declared.reply.Reply.{Reply};
+ghost use Rattle.event_core.specs.Cut.{cut};
 ghost use Rattle.event_core.specs.Legal.{Legal};
 ghost use Rattle.event_core.specs.Locally.{EachFollows, Rising};
-ghost use Rattle.event_core.specs.RangedScripts.{IsRanged};
+ghost use Rattle.event_core.specs.Moved.{Moved};
+ghost use Rattle.event_core.specs.Next.{next_step};
+ghost use Rattle.event_core.specs.ReadableScript.{ReadableScript};
+ghost use Rattle.block_laws.specs.BlockScripts.{IsOfBlocks};
 ghost use Rattle.guest_history.specs.Agreeing.{Agree, AllReplied, AreMadeBy};
 ghost use Rattle.memory_core.specs.Away.{FoundAgain};
 ghost use Rattle.memory_core.specs.Booted.{IsBooted};
 ghost use Rattle.memory_core.specs.Value.{MemoryValue};
 ghost use Rattle.guest_steps.specs.Running.{AllFinished, AreOf, AtFirst};
-ghost use Rattle.guest_steps.specs.Seen.{Seen};
+ghost use Rattle.guest_steps.specs.declared.processor.Need.TheVariants.{Own};
+ghost use Rattle.guest_steps.specs.Seen.{Seen, need_of, own_moved};
 ghost use Rattle.guest_steps.specs.Standing.{Stands, Together, kept_by, lists_of, scripts_of};
-ghost use Rattle.guest_steps.specs.Steps.{MakesIn, RoomAlone, stamp_before};
+ghost use Rattle.guest_steps.specs.Steps.{HaveScript, IsBlocked, MakesIn, RoomAlone, own_reply, stamp_before};
 
 /// Before the first entry all processors of a boot stand before its memory.
 pub fn beginning_stands()
     ensures { (boot : BootValue) (all : List Seen) (memory : MemoryValue) → IsBooted boot →
-        length all ≡ boot.cpus → memory.boot ≡ boot → AtFirst all memory →
+        length (cut boot) ≤ PAGE_END → length all ≡ boot.cpus → memory.boot ≡ boot →
+        AtFirst all memory →
         ((cpu : ℕ) (c : Seen) → slice_get all cpu ≡ Some c → (c.number ≡ cpu)
-        × (c.boot ≡ boot) × All IsRanged c.script × (length c.script ≤ MAX_COMMANDS)) →
+        × (c.boot ≡ boot) × All IsOfBlocks c.script × ReadableScript c.script) →
         Together boot all memory }
+{}
+
+/// A processor that needs nothing beside itself has a next event of its own, which ends its command, whatever the memory's entries.
+pub fn own_steps_need_no_memory()
+    ensures { (c : Seen) (scripts : List (List Command)) (there : List Moved)
+        (calls : List ModuleCall) → need_of c ≡ Own → HaveScript scripts c → (r : Reply)
+        × (next_step c.boot scripts c.number (own_moved c) there calls ≡ Some (own_reply r)) }
+{}
+
+/// Where a processor is blocked another one has a claim open, and so a next event: never are all blocked.
+pub fn blocked_waits_for_another()
+    ensures { (boot : BootValue) (all : List Seen) (memory : MemoryValue) (cpu : ℕ) (c : Seen) →
+        Together boot all memory → slice_get all cpu ≡ Some c → IsBlocked c memory.entries →
+        (other : ℕ) × (waited : Seen) × (slice_get all other ≡ Some waited) × (other ≢ cpu)
+        × (waited.out ≢ None) }
 {}
 
 /// A processor goes on standing while others make entries.

@@ -7,8 +7,8 @@ mod laws;
 mod processor;
 
 pub use laws::{
-    beginning_stands, entries_go_on_rising, finished_is_replied, others_leave_standing,
-    room_leaves_all_together, stamps_stay_small, standing_lists_agree,
-    standing_lists_have_a_history, step_leaves_all_together,
+    beginning_stands, blocked_waits_for_another, entries_go_on_rising, finished_is_replied,
+    others_leave_standing, own_steps_need_no_memory, room_leaves_all_together, stamps_stay_small,
+    standing_lists_agree, standing_lists_have_a_history, step_leaves_all_together,
 };
 pub use processor::{Need, Processor, Stepped};

@@ -26,7 +26,7 @@ pub enum Need {
 pub enum Stepped {
     /// One entry was made.
     Event,
-    /// An open claim of another processor is in the way: nothing has changed.
+    /// There is no next event, as another processor has a claim open: nothing has changed.
     Blocked,
 }
 
@@ -51,9 +51,10 @@ pub trait Processor: Send {
         ensures stands { (memory : MemoryValue) → stands self.old memory → stands self.new memory }
         ensures never_fails_kept { never_fails self.old → never_fails self.new };
 
-    /// Makes the next entry over the memory, or is blocked: exactly where an open claim is in the way. After an error nothing
-    /// has changed but the memory's room, and no claim is open: with an open claim a step can't fail. `NoRoom::Worn` with the
-    /// stamp comes exactly where no claim is open and the greatest stamp before the step is 2^64 or more.
+    /// Makes the next entry over the memory, or is blocked: exactly where there is no next event, as another processor's open
+    /// claim is in the way, or is for a block that an allocation waits for. After an error nothing has changed but room, and no
+    /// claim is open: with an open claim a step can't fail. `NoRoom::Worn` with the stamp comes exactly where no claim is open
+    /// and the greatest stamp before the step is 2^64 or more.
     fn step_memory(&mut self, alloc: Global, memory: &mut Memory) -> Result<Stepped, NoRoom>
         requires need { need_of (seen self.old) ≡ Need.Memory }
         requires worked { IsWorked (seen self.old) }
@@ -72,8 +73,9 @@ pub trait Processor: Send {
             → result ≡ Err (NoRoom.Worn (stamp_before (seen self.old) memory.old)) }
         ensures never_fails_kept { never_fails self.old → never_fails self.new };
 
-    /// Makes the next entry by itself: a command that is refused ends without the memory. After an error nothing has changed.
-    /// `NoRoom::Worn` with the stamp comes exactly where the processor's greatest stamp is 2^64 or more.
+    /// Makes the next entry by itself: a command that is refused, or one about the bytes of the processor's own blocks, ends
+    /// without the memory. After an error nothing has changed but room. `NoRoom::Worn` with the stamp comes exactly where the
+    /// processor's greatest stamp is 2^64 or more.
     fn step_own(&mut self, alloc: Global) -> Result<(), NoRoom>
         requires need { need_of (seen self.old) ≡ Need.Own }
         requires stands { (memory : MemoryValue) × stands self.old memory }

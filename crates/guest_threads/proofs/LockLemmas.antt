@@ -10,7 +10,7 @@ use Rattle.event_core.specs.Moved.{Moved, entries_of, made_by}
 use Rattle.claim_lock.specs.Knows.{Finds, first_known}
 use Rattle.claim_lock.specs.Rule.{nobody}
 use Rattle.claim_lock.specs.Seen.{LockSeen, PassSeen}
-use Rattle.memory_core.specs.Away.{FoundAgain}
+use Rattle.memory_core.specs.Away.{FoundAgain, WaitingFalls}
 use Rattle.memory_core.specs.UnderLock.{fixed_of, part_of, moved_of, unmoved}
 use Rattle.memory_core.specs.Value.{MemoryValue}
 use Rattle.guest_steps.specs.Running.{AllStand}
@@ -123,17 +123,17 @@ module _ {T : Type 0} (seen : T → Seen) (stands : T → MemoryValue → Type 0
 
   module _ (told : (c : T) (memory : MemoryValue) → stands c memory → Stands (seen c) memory)
       (left_standing : (c : T) (left found : MemoryValue) → stands c left → FoundAgain (seen c).number left found → stands c found) where
-    seated-found : (lock : LockSeen) (memory : MemoryValue) (from : ℕ) (passes : List PassSeen) (all : List T) → EachSeated seen stands lock from passes all → All (λ (p : PassSeen). Finds fixed_of part_of moved_of p.known memory) passes
+    seated-found : (lock : LockSeen) (memory : MemoryValue) → WaitingFalls memory.boot memory.entries → (from : ℕ) (passes : List PassSeen) (all : List T) → EachSeated seen stands lock from passes all → All (λ (p : PassSeen). Finds fixed_of part_of moved_of p.known memory) passes
         → (k : ℕ) (c : T) → slice_get all k ≡ Some c → ((seen c).number ≡ from + k) × (lock.seats ≡ (seen c).boot.cpus) × stands c memory
-    seated-found lock memory from [] [] each finds k c is = cc
-    seated-found lock memory from [] (x ∷ xs) each finds k c is = absurd each
-    seated-found lock memory from (p ∷ ps) [] each finds k c is = absurd each
-    seated-found lock memory from (p ∷ ps) (x ∷ xs) each finds zero c is =
+    seated-found lock memory falls from [] [] each finds k c is = cc
+    seated-found lock memory falls from [] (x ∷ xs) each finds k c is = absurd each
+    seated-found lock memory falls from (p ∷ ps) [] each finds k c is = absurd each
+    seated-found lock memory falls from (p ∷ ps) (x ∷ xs) each finds zero c is =
         let same : x ≡ c = cc in
         subst (λ y. ((seen y).number ≡ from + 0) × (lock.seats ≡ (seen y).boot.cpus) × stands y memory) same
-        (omega (arith, each.0), each.1.cpus, found-seated seen stands left_standing lock p x memory each.1 (All-head (λ (q : PassSeen). Finds fixed_of part_of moved_of q.known memory) p ps finds))
-    seated-found lock memory from (p ∷ ps) (x ∷ xs) each finds (suc k) c is =
-        let there = seated-found lock memory (suc from) ps xs each.2 (All-tail (λ (q : PassSeen). Finds fixed_of part_of moved_of q.known memory) p ps finds) k c is in (omega (arith, there.0), there.1, there.2)
+        (omega (arith, each.0), each.1.cpus, found-seated seen stands left_standing lock p x memory each.1 (All-head (λ (q : PassSeen). Finds fixed_of part_of moved_of q.known memory) p ps finds) falls)
+    seated-found lock memory falls from (p ∷ ps) (x ∷ xs) each finds (suc k) c is =
+        let there = seated-found lock memory falls (suc from) ps xs each.2 (All-tail (λ (q : PassSeen). Finds fixed_of part_of moved_of q.known memory) p ps finds) k c is in (omega (arith, there.0), there.1, there.2)
 
     named-entries : (seats : ℕ) (entries : List Entry) → All (λ (m : Moved). m.entry.cpu.0 < seats) (map unmoved entries) → All (λ (e : Entry). e.cpu.0 < seats) entries
     named-entries seats [] all = All-nil (λ (e : Entry). e.cpu.0 < seats)
@@ -143,12 +143,12 @@ module _ {T : Type 0} (seen : T → Seen) (stands : T → MemoryValue → Type 0
 
     -- all processors stand before the memory that their lock gives back
     pub closed-stand : (lock : LockSeen) (passes : List PassSeen) (all : List T) (memory : MemoryValue) → AllSeated seen stands lock passes all → All (λ (p : PassSeen). Finds fixed_of part_of moved_of p.known memory) passes
-        → Rising memory.entries → AllStand seen stands memory.boot all memory
-    closed-stand lock [] [] memory s finds rises = absurd (omega (arith, s.some, s.count))
-    closed-stand lock [] (x ∷ xs) memory s finds rises = absurd s.each
-    closed-stand lock (p ∷ ps) [] memory s finds rises = absurd s.each
-    closed-stand lock (p ∷ ps) (x ∷ xs) memory s finds rises =
-        let found = seated-found lock memory 0 (p ∷ ps) (x ∷ xs) s.each finds in
+        → Rising memory.entries → WaitingFalls memory.boot memory.entries → AllStand seen stands memory.boot all memory
+    closed-stand lock [] [] memory s finds rises falls = absurd (omega (arith, s.some, s.count))
+    closed-stand lock [] (x ∷ xs) memory s finds rises falls = absurd s.each
+    closed-stand lock (p ∷ ps) [] memory s finds rises falls = absurd s.each
+    closed-stand lock (p ∷ ps) (x ∷ xs) memory s finds rises falls =
+        let found = seated-found lock memory falls 0 (p ∷ ps) (x ∷ xs) s.each finds in
         let boot : (k : ℕ) (c : T) → slice_get (x ∷ xs) k ≡ Some c → memory.boot ≡ (seen c).boot = λ k c is. (told c memory (found k c is).2).same in
         let cpus : lock.seats ≡ memory.boot.cpus = (found 0 x refl).1 ∙ sym (ap (λ (b : Boot). b.cpus) (boot 0 x refl)) in
         let first = All-head (λ (q : PassSeen). Finds fixed_of part_of moved_of q.known memory) p ps finds in

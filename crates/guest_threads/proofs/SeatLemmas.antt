@@ -4,11 +4,10 @@ use Rattle.event_core.specs.declared.clock.NoRoom.TheVariants.{Worn}
 use Rattle.event_core.specs.declared.entry.Entry.{Entry}
 use Rattle.event_core.specs.Legal.{greatest_stamp}
 use Rattle.event_core.specs.Moved.{entries_of}
-use Rattle.event_core.specs.Own.{own_of}
 use Rattle.claim_lock.specs.declared.known.Known.{Known}
 use Rattle.claim_lock.specs.Knows.{Finds, MayGive, left_known}
 use Rattle.claim_lock.specs.Seen.{GripSeen, LockSeen, PassSeen}
-use Rattle.memory_core.specs.Away.{FoundAgain}
+use Rattle.memory_core.specs.Away.{FoundAgain, WaitingFalls}
 use Rattle.memory_core.specs.Steps.{last_stamp}
 use Rattle.memory_core.specs.UnderLock.{fixed_of, part_of, moved_of}
 use Rattle.memory_core.specs.Value.{MemoryValue}
@@ -17,7 +16,7 @@ use Rattle.guest_steps.specs.declared.processor.Stepped.{Stepped}
 use Rattle.guest_steps.specs.declared.processor.Stepped.TheVariants.{Event, Blocked}
 use Rattle.guest_steps.specs.declared.processor.Need.{Need}
 use Rattle.guest_steps.specs.declared.processor.Need.TheVariants as need
-use Rattle.guest_steps.specs.Seen.{Seen, Accepted, need_by, need_for, own_moved, present_command}
+use Rattle.guest_steps.specs.Seen.{Seen, Accepted, need_by, need_for, own_moved, own_now, present_command}
 use Rattle.guest_steps.specs.Standing.{FollowsAll, IsOut, Stands}
 use Rattle.guest_steps.specs.Steps.{IsBlocked, IsUnasked, MakesIn, RoomAlone, Works, stamp_before}
 use Rattle.guest_steps.proofs.StepLemmas.{makes-may-give, room-may-give}
@@ -108,9 +107,9 @@ module _ {T : Type 0} (seen : T → Seen) (stands : T → MemoryValue → Type 0
 
   -- it stands before the memory that it finds when it takes the lock
   pub found-seated : ((c : T) (left found : MemoryValue) → stands c left → FoundAgain (seen c).number left found → stands c found) → (lock : LockSeen) (pass : PassSeen) (c : T) (found : MemoryValue)
-      → Seated seen stands lock pass c → Finds fixed_of part_of moved_of pass.known found → stands c found
-  found-seated left_standing lock pass c found s finds =
-      left_standing c s.left found s.standing (subst (λ n. FoundAgain n s.left found) s.number (found-again pass.known s.left found s.knows.fixed s.knows.part s.knows.seen s.knows.own finds))
+      → Seated seen stands lock pass c → Finds fixed_of part_of moved_of pass.known found → WaitingFalls found.boot found.entries → stands c found
+  found-seated left_standing lock pass c found s finds falls =
+      left_standing c s.left found s.standing (subst (λ n. FoundAgain n s.left found) s.number (found-again pass.known s.left found s.knows.fixed s.knows.part s.knows.seen s.knows.own finds falls))
 
   -- and it is at its seat again when it gave the lock back
   pub given-seated : (lock : LockSeen) (pass left : PassSeen) (old new : T) (taken given : MemoryValue) → Seated seen stands lock pass old → (seen new).number ≡ (seen old).number → (seen new).boot ≡ (seen old).boot
@@ -136,9 +135,10 @@ module _ {T : Type 0} (seen : T → Seen) (stands : T → MemoryValue → Type 0
     (left_standing : (c : T) (left found : MemoryValue) → stands c left → FoundAgain (seen c).number left found → stands c found) where
   -- work leaves a processor at its seat, and it stands before the memory that it then finds
   pub worked-found : (lock : LockSeen) (pass : PassSeen) (old worked : T) (taken before : MemoryValue) → Seated seen stands lock pass old → Works (seen old) (seen worked)
-      → ((memory : MemoryValue) → stands old memory → stands worked memory) → Finds fixed_of part_of moved_of pass.known taken → before ≡ taken → stands worked before
-  worked-found lock pass old worked taken before s w keeps finds is =
-      subst (stands worked) (sym is) (found-seated seen stands left_standing lock pass worked taken (seated-kept seen stands lock pass old worked s w.number w.boot keeps) finds)
+      → ((memory : MemoryValue) → stands old memory → stands worked memory) → Finds fixed_of part_of moved_of pass.known taken → before ≡ taken → WaitingFalls before.boot before.entries → stands worked before
+  worked-found lock pass old worked taken before s w keeps finds is falls =
+      subst (stands worked) (sym is) (found-seated seen stands left_standing lock pass worked taken (seated-kept seen stands lock pass old worked s w.number w.boot keeps) finds
+      (subst (λ (m : MemoryValue). WaitingFalls m.boot m.entries) is falls))
 
   -- after its step it may give the lock back
   pub stepped-may-give : (lock : LockSeen) (pass : PassSeen) (old worked new : T) (grip : GripSeen MemoryValue) (taken before after : MemoryValue) (result : Result Stepped NoRoom)
@@ -182,7 +182,7 @@ refused-ended old new left known taken before after refusal is_known refused wor
 }
 
 ended-out : (c : Seen) (pass : PassSeen) (answer : Result Unit NoRoom) → Ended c pass answer → c.out ≡ None
-ended-out c pass (Ok done) e = none-out c.out (need_for c.boot (own_of c.script (own_moved c)) (present_command c)) e.finished
+ended-out c pass (Ok done) e = none-out c.out (need_for c.boot (own_now c) (present_command c)) e.finished
   where
     none-out : (out : _) (rest : Need) → need_by out rest ≡ need.Finished → out ≡ None
     none-out None rest is = refl

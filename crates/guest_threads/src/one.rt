@@ -24,7 +24,8 @@ pub struct Driven {
 
 /// Runs a processor's script to its end. It takes the lock for each step of the memory and gives it back right after; the
 /// calls of the secure module, and the events that the processor makes by itself, are made while the lock is free. It waits
-/// where another one holds the lock, or has a claim open that is in the way, and that it gets on isn't promised.
+/// where another one holds the lock, or has a claim open that is in the way or is for a block that it waits for, and that it gets
+/// on isn't promised.
 ///
 /// Each of its entries follows its own earlier ones and those of the memory before it, which the pass has seen. `answer` is an
 /// error where a step was refused: no claim of the processor is open then. `NoRoom::Worn` comes only with a stamp of 2^64 or more.
@@ -111,7 +112,9 @@ fn memory_step<R: Wait, T: Processor>(
 {
     processor.work();
     let mut held = lock.take(rt, pass);
-    let stepped = processor.step_memory(alloc, held.state());
+    let memory = held.state();
+    memory.show_rising();
+    let stepped = processor.step_memory(alloc, memory);
     let pass = lock.give(held);
     match stepped {
         Ok(Stepped::Event) => Progress::GoesOn(pass),

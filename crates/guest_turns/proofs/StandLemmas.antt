@@ -7,12 +7,14 @@ use Rattle.std.proofs.lemmas.List.{length-set, map-set, set-set, get_or-set_othe
 use Rattle.std.proofs.lemmas.List.Sums.{sum_by-set}
 use Rattle.std.proofs.lemmas.Option.{get_or_from_slice_get, slice_get-get_or, slice_get-map, slice_get_within}
 use Rattle.event_core.specs.declared.boot.Boot.{Boot}
+use Rattle.event_core.specs.declared.entry.Entry.{Entry}
 use Rattle.memory_core.specs.Away.{FoundAgain}
 use Rattle.memory_core.specs.Value.{MemoryValue}
 use Rattle.guest_steps.specs.Running.{AllStand, StaysLater}
-use Rattle.guest_steps.specs.Seen.{Seen, steps_left}
+use Rattle.guest_steps.specs.Seen.{Seen, steps_left, steps_waiting}
 use Rattle.guest_steps.specs.Standing.{Stands, Together}
-use Rattle.guest_turns.specs.Walks.{GoOn, MakesTurn, Rests, RestsAt, Waits, Walked, WalksOn, all_left}
+use Rattle.guest_steps.specs.Steps.{memory_after}
+use Rattle.guest_turns.specs.Walks.{GoOn, MakesTurn, Rests, RestsAt, Waits, Walked, WalksOn, all_left, all_steps, waiting_in}
 use Rattle.guest_steps.proofs.AmongLemmas.{makes-together, room-together, set-together}
 use Rattle.guest_steps.proofs.StepLemmas.{makes-leave-others, room-leaves}
 use Rattle.guest_turns.proofs.LaterLemmas.{later-set}
@@ -94,35 +96,41 @@ event-walks all cpu was now before after t at m turns walked =
     let end = walk-makes before.boot (set all cpu m.worked) cpu m.worked now before after turns (slice_get-set_same all cpu was m.worked at) (m.stays.number ∙ its.0) (m.stays.boot ∙ its.1) m.makes mid in
     subst (λ xs. Walked before.boot xs after (turns ++ cpu ∷ [])) (set-set all cpu m.worked now) end
 
-rest-walks : (all : List Seen) (cpu : ℕ) (was now : Seen) (before after : MemoryValue) → Together before.boot all before → slice_get all cpu ≡ Some was → Stands now after
+rest-walks : (all : List Seen) (cpu : ℕ) (was now : Seen) (before after : MemoryValue) → Together before.boot all before → slice_get all cpu ≡ Some was
     → Waits was now before after → Rests now after.entries → WalksOn (cpu ∷ []) all (set all cpu now) before after
-rest-walks all cpu was now before after t at stands w rests turns walked =
+rest-walks all cpu was now before after t at w rests turns walked =
     let its = t.each cpu was at in
     let mid = walk-same before.boot all (set all cpu now) before after turns (lists-same all cpu was now at w.stays.entries) (scripts-same all cpu was now at w.stays.script) w.memory.entries walked in
-    walk-rests before.boot (set all cpu now) after turns cpu now (slice_get-set_same all cpu was now at) (w.stays.number ∙ its.0) (w.stays.boot ∙ its.1) (rests-idle now after stands rests) mid
+    walk-rests before.boot (set all cpu now) after turns cpu now (slice_get-set_same all cpu was now at) (w.stays.number ∙ its.0) (w.stays.boot ∙ its.1) (rests-idle now after.entries rests) mid
 
 pub turn-walks : (result : Result Bool AllocError) (all : List Seen) (cpu : ℕ) (was now : Seen) (before after : MemoryValue) → Together before.boot all before → slice_get all cpu ≡ Some was
-    → Stands now after → (result ≡ Ok true → MakesTurn was now before after) → (result ≡ Ok false → Waits was now before after × Rests now after.entries)
+    → (result ≡ Ok true → MakesTurn was now before after) → (result ≡ Ok false → Waits was now before after × Rests now after.entries)
     → OnOk result (WalksOn (cpu ∷ []) all (set all cpu now) before after)
-turn-walks (Ok true) all cpu was now before after t at stands event none = event-walks all cpu was now before after t at (event refl)
-turn-walks (Ok false) all cpu was now before after t at stands event none = rest-walks all cpu was now before after t at stands (none refl).0 (none refl).1
-turn-walks (Err e) all cpu was now before after t at stands event none = tt
+turn-walks (Ok true) all cpu was now before after t at event none = event-walks all cpu was now before after t at (event refl)
+turn-walks (Ok false) all cpu was now before after t at event none = rest-walks all cpu was now before after t at (none refl).0 (none refl).1
+turn-walks (Err e) all cpu was now before after t at event none = tt
 
 -- ---- the steps that are left
 
-left-set : (all : List Seen) (cpu : ℕ) (was now : Seen) → slice_get all cpu ≡ Some was → all_left (set all cpu now) + steps_left was ≡ all_left all + steps_left now
-left-set all cpu was now at = ap (λ (c : Seen). all_left (set all cpu now) + steps_left c) (sym (get_or_from_slice_get all cpu was was at)) ∙ sum_by-set steps_left all cpu now was (slice_get_within all cpu was at)
+left-set : (all : List Seen) (cpu : ℕ) (was now : Seen) → slice_get all cpu ≡ Some was → all_steps (set all cpu now) + steps_left was ≡ all_steps all + steps_left now
+left-set all cpu was now at = ap (λ (c : Seen). all_steps (set all cpu now) + steps_left c) (sym (get_or_from_slice_get all cpu was was at)) ∙ sum_by-set steps_left all cpu now was (slice_get_within all cpu was at)
 
-pub event-leaves : (all : List Seen) (cpu : ℕ) (was now : Seen) (before after : MemoryValue) → slice_get all cpu ≡ Some was → MakesTurn was now before after → all_left (set all cpu now) < all_left all
+pub event-leaves : (all : List Seen) (cpu : ℕ) (was now : Seen) (before after : MemoryValue) → slice_get all cpu ≡ Some was → MakesTurn was now before after → all_left (set all cpu now) after < all_left all before
 event-leaves all cpu was now before after at m =
-    let less : steps_left now < steps_left m.worked = m.makes.makes.less in
+    let W : Boot → List Entry → ℕ = λ b es. steps_waiting b es in
+    let less : steps_left now + W m.worked.boot (memory_after before.entries m.makes.entry) < steps_left m.worked + W m.worked.boot before.entries = m.makes.makes.less in
+    let one : W m.worked.boot before.entries ≡ waiting_in before = ap (λ b. W b before.entries) (sym m.stands.same) in
+    let two : W m.worked.boot (memory_after before.entries m.makes.entry) ≡ waiting_in after = ap (λ es. W m.worked.boot es) (sym m.makes.entries) ∙ ap (λ b. W b after.entries) (sym (m.makes.boot ∙ m.stands.same)) in
     let same : steps_left m.worked ≡ steps_left was = stays-left was m.worked m.stays in
     let sums = left-set all cpu was now at in
-    omega (arith, less, same, sums)
+    counted (all_steps all) (all_steps (set all cpu now)) (steps_left was) (steps_left m.worked) (steps_left now) (waiting_in before) (waiting_in after) (W m.worked.boot before.entries) (W m.worked.boot (memory_after before.entries m.makes.entry)) less one two same sums
+  where
+    counted : (a b x y z p q u v : ℕ) → z + v < y + u → u ≡ p → v ≡ q → y ≡ x → b + x ≡ a + z → b + q < a + p
+    counted a b x y z p q u v less one two same sums = omega (arith, less, one, two, same, sums)
 
 pub rest-is : (all : List Seen) (cpu : ℕ) (was now : Seen) (before after : MemoryValue) → slice_get all cpu ≡ Some was → Waits was now before after → Rests now after.entries
     → RestsAt cpu all (set all cpu now) before after
 rest-is all cpu was now before after at w rests =
     let same : steps_left now ≡ steps_left was = stays-left was now w.stays in
     let sums = left-set all cpu was now at in
-    record { entries = w.memory.entries; now = now; others = refl; rests = rests; left = omega (arith, same, sums) }
+    record { boot = w.memory.boot; entries = w.memory.entries; now = now; others = refl; rests = rests; left = omega (arith, same, sums) }

@@ -1,4 +1,4 @@
-use Rattle.std.proofs.Common.{Ok, true, List, refl, sym, ap}
+use Rattle.std.proofs.Common.{Ok, true, List, refl, sym, ap, arith}
 use Rattle.event_core.specs.declared.entry.Entry.{Entry}
 use Rattle.memory_core.specs.Value.{MemoryValue}
 use Rattle.guest_steps.specs.Running.{StaysLater}
@@ -19,7 +19,7 @@ own-turn old new memory stands m = record {
     makes = m.makes memory.entries;
     boot = refl;
     entries = sym (ap (λ place. memory_by place memory.entries m.entry) m.place);
-    others = record { handed = λ other differ. refl; states = λ other claim page differ claimed within. refl };
+    others = record { handed = λ other differ. refl; states = λ other claim page differ claimed within. refl; waiting = omega arith };
   };
 }
 

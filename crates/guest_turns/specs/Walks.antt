@@ -1,4 +1,4 @@
-use Rattle.std.specs.Prelude.{ℕ, List, [], ◌++◌, Bool, true, false, Result, Ok, OnErr, ◌≡◌, ◌⊎◌, map, set, sum_by}
+use Rattle.std.specs.Prelude.{ℕ, List, [], ◌++◌, Bool, true, false, Result, Ok, OnErr, ◌≡◌, ◌⊎◌, ◌+◌, map, set, sum_by}
 use Rattle.std.specs.declared.alloc.AllocError.{AllocError}
 use Rattle.event_core.specs.declared.boot.Boot.{Boot}
 use Rattle.event_core.specs.declared.entry.Entry.{Entry}
@@ -8,7 +8,7 @@ use Rattle.event_core.specs.Turns.{TakenIn}
 use Rattle.memory_core.specs.UnderLock.{unmoved}
 use Rattle.memory_core.specs.Value.{MemoryValue}
 use Rattle.guest_steps.specs.declared.processor.Need.TheVariants.{Finished}
-use Rattle.guest_steps.specs.Seen.{Seen, need_of, steps_left}
+use Rattle.guest_steps.specs.Seen.{Seen, need_of, steps_left, steps_waiting}
 use Rattle.guest_steps.specs.Running.{AllStand, AreOf, EachLater, StaysLater}
 use Rattle.guest_steps.specs.Standing.{Stands, scripts_of}
 use Rattle.guest_steps.specs.Steps.{IsBlocked, MakesIn, RoomAlone, ticket_of}
@@ -17,7 +17,7 @@ use Rattle.guest_steps.specs.Steps.{IsBlocked, MakesIn, RoomAlone, ticket_of}
 
 -- ---- one turn of a processor
 
--- the processor makes no entry: it is finished, or an open claim is in the way
+-- the processor makes no entry: it is finished or blocked
 abbrev pub Rests : Seen → List Entry → Type 0
 Rests c memory = (need_of c ≡ Finished) ⊎ IsBlocked c memory
 
@@ -41,8 +41,8 @@ pub record MakesTurn (old new : Seen) (before after : MemoryValue) : Type 0 wher
   pub stands : Stands worked before
   pub makes : MakesIn worked new before after
 
--- What one turn of a processor does: it makes an entry where it says so, and none where it doesn't or
--- where memory ran out.
+-- What one turn of a processor does: it makes an entry where it says so, and none where it doesn't
+-- or where memory ran out.
 pub record OneTurn {T : Type 0} (seen : T → Seen) (stands : T → MemoryValue → Type 0)
     (NeverFails : T → Type 0) (made : Result Bool AllocError) (old new : T)
     (before after : MemoryValue) : Type 0 where
@@ -78,14 +78,22 @@ WalksOn more old new before after =
     (turns : List ℕ) → Walked before.boot old before turns
     → Walked before.boot new after (turns ++ more)
 
--- the steps that are left to all processors, at most
-abbrev pub all_left : List Seen → ℕ
-all_left all = sum_by steps_left all
+-- the steps that are left to all processors, at most, and with those for the blocks of the memory
+-- that aren't accepted yet
+abbrev pub all_steps : List Seen → ℕ
+all_steps all = sum_by steps_left all
+
+abbrev pub waiting_in : MemoryValue → ℕ
+waiting_in memory = steps_waiting memory.boot memory.entries
+
+abbrev pub all_left : List Seen → MemoryValue → ℕ
+all_left all memory = all_steps all + waiting_in memory
 
 -- in its turn this processor made no entry
 pub record RestsAt (cpu : ℕ) (old new : List Seen) (before after : MemoryValue) : Type 0 where
+  pub boot : after.boot ≡ before.boot
   pub entries : after.entries ≡ before.entries
   pub now : Seen
   pub others : new ≡ set old cpu now
   pub rests : Rests now after.entries
-  pub left : all_left new ≡ all_left old
+  pub left : all_steps new ≡ all_steps old

@@ -14,7 +14,7 @@ use std::alloc::{AllocError, Global};
 
 /// Runs processors by turns on one thread, without a lock: turns in this order, and then rounds of all processors, each from number
 /// 0 up, until every script has its replies. In its turn a processor makes one event; it makes none where it is finished, or where
-/// an open claim of another one is in its way. The processor number n stands at place n.
+/// an open claim of another one is in its way or is for a block that it waits for. The processor number n stands at place n.
 ///
 /// An error comes only where memory runs out. The processors then stand as their events so far left them.
 pub fn turns<T: Processor>(
@@ -73,8 +73,8 @@ fn round<T: Processor>(
         (map T.seen processors.old.items) (map T.seen processors.new.items)
         memory.old memory.new) }
     ensures less { OnOk result ((AllFinished (map T.seen processors.old.items) → ⊥)
-        → all_left (map T.seen processors.new.items)
-        < all_left (map T.seen processors.old.items)) }
+        → all_left (map T.seen processors.new.items) memory.new
+        < all_left (map T.seen processors.old.items) memory.old) }
 {
     for cpu in 0..processors.len() {
         turn(alloc, memory, processors, cpu)?;

@@ -25,8 +25,8 @@ pub(crate) fn turn<T: Processor>(
     ensures walk { OnOk result (WalksOn (cpu ∷ [])
         (map T.seen processors.old.items) (map T.seen processors.new.items)
         memory.old memory.new) }
-    ensures event { result ≡ Ok true → all_left (map T.seen processors.new.items)
-        < all_left (map T.seen processors.old.items) }
+    ensures event { result ≡ Ok true → all_left (map T.seen processors.new.items) memory.new
+        < all_left (map T.seen processors.old.items) memory.old }
     ensures none { result ≡ Ok false → RestsAt cpu (map T.seen processors.old.items)
         (map T.seen processors.new.items) memory.old memory.new }
 {

@@ -7,6 +7,7 @@ use Rattle.std.proofs.lemmas.List.Sums.{sum_by-set}
 use Rattle.guest_base.specs.Ranges.{in_range}
 use Rattle.guest_base.specs.Search.{count_such}
 use Rattle.guest_base.proofs.SearchLemmas.{count_such_same}
+use Rattle.guest_base.specs.declared.memory.Block.{Block}
 use Rattle.guest_base.specs.declared.memory.Pages.{Pages}
 use Rattle.guest_base.specs.declared.memory.Units.{Units}
 use Rattle.event_core.specs.declared.boot.Boot.{Boot}
@@ -24,12 +25,16 @@ use Rattle.page_module.specs.Tables.{Table, is_out, run_count}
 use Rattle.page_module.specs.declared.ticket.Ticket.{Ticket}
 use Rattle.page_module.proofs.OutLemmas.{is_out-last, is_out-more}
 use Rattle.event_core.specs.Table.{Bits}
+use Rattle.block_allocator.specs.State.{State}
 use Rattle.accepting_ranges.specs.Claims.{kept_of, MeetsNone}
 use Rattle.memory_core.specs.OpenClaims.{units_of}
 use Rattle.memory_core.specs.Bitmaps.{bits_in, AreRunsFrom}
+use Rattle.memory_core.specs.KeptBlocks.{BlocksAfter}
+use Rattle.memory_core.specs.Settled.{Settled}
 use Rattle.memory_core.specs.Steps.{bare_entry, last_stamp, pages_of, IsInTable}
 use Rattle.memory_core.specs.StandsFor.{StandsFor, HoldsFor, OpenStands, spans_of, reports_of, pieces_for}
 use Rattle.memory_core.specs.declared.claims.OpenClaim.{OpenClaim}
+use Rattle.memory_core.proofs.BlockStepLemmas.{BlocksGo}
 use Rattle.memory_core.proofs.HoldsLemmas.{open-kept, none-kept, holds-open}
 use Rattle.memory_core.proofs.UnitsLemmas.{first_run-facts, run-counts}
 use Rattle.memory_core.proofs.KeptLemmas.{runs-same}
@@ -37,12 +42,12 @@ use Rattle.memory_core.proofs.StepLemmas.{steady-push, last-push, claim-mine, cl
 use Rattle.memory_core.proofs.OpenLemmas.{clear-of, apart-of, meets-swap, run-in, runs-few, room-left, kept-same, kept-other, cpus-set}
 
 -- the claim that is kept
-abbrev pub made_claim : Units → Units → Vec Units Global → Ticket → ℕ → OpenClaim
-made_claim units run later ticket room = record { units = units; run = run; later = later; opened = 0; cleared = 0; ticket = ticket; room = room }
+abbrev pub made_claim : Option Block → Units → Units → Vec Units Global → Ticket → ℕ → OpenClaim
+made_claim block units run later ticket room = record { block = block; units = units; run = run; later = later; opened = 0; cleared = 0; ticket = ticket; room = room }
 
 -- and the one that is open
-abbrev pub opened_claim : Units → Units → List ModuleCall → Claimed
-opened_claim units run before = record { block = None; units = units; run = run; before = before; cleared = 0 }
+abbrev pub opened_claim : Option Block → Units → Units → List ModuleCall → Claimed
+opened_claim block units run before = record { block = block; units = units; run = run; before = before; cleared = 0 }
 
 -- the first run's place in the units
 pub record FirstRun (test : ℕ → Bool) (units run : Units) : Type 0 where
@@ -66,38 +71,38 @@ first-run test units run is =
     }
 
 -- no other open claim meets the units
-others-clear : (boot : Boot) (entries : Vec Entry Global) (last : ℕ) (table : Table) (bits : Option Bits) (claims : List (Option OpenClaim)) (pages kept room : ℕ) (units : Units)
-    → StandsFor boot entries last table bits claims pages kept room → MeetsNone units_of claims units
+others-clear : (boot : Boot) (entries : Vec Entry Global) (last : ℕ) (table : Table) (bits : Option Bits) (claims : List (Option OpenClaim)) (blocks : State) (pages kept room : ℕ) (units : Units)
+    → StandsFor boot entries last table bits claims blocks pages kept room → MeetsNone units_of claims units
     → (d : ℕ) (b : Claimed) → claim_of boot entries.items d ≡ Some b → (b.units.first ≤ b.run.first) × (units_end b.run ≤ units_end b.units) × (units_meet units b.units ≡ false)
-others-clear boot entries last table bits claims pages kept room units s clear d b is =
+others-clear boot entries last table bits claims blocks pages kept room units s clear d b is =
     let found = open-kept boot (bits_in bits) table.out (kept_of claims d) (claim_of boot entries.items d) b is (s.holds.open_claims d) in
-    (found.2.low, found.2.within, apart-of units b.units (meets-swap b.units units (clear-of boot entries last table bits claims pages kept room s units clear d b is)))
+    (found.2.low, found.2.within, apart-of units b.units (meets-swap b.units units (clear-of boot entries last table bits claims blocks pages kept room s units clear d b is)))
 
 -- the pages of the run are in
-pub claimed-in : (boot : Boot) (entries : Vec Entry Global) (last : ℕ) (table : Table) (bits : Option Bits) (claims : List (Option OpenClaim)) (pages kept room : ℕ) (units run : Units)
-    → StandsFor boot entries last table bits claims pages kept room → MeetsNone units_of claims units → FirstRun (bits_in bits) units run
+pub claimed-in : (boot : Boot) (entries : Vec Entry Global) (last : ℕ) (table : Table) (bits : Option Bits) (claims : List (Option OpenClaim)) (blocks : State) (pages kept room : ℕ) (units run : Units)
+    → StandsFor boot entries last table bits claims blocks pages kept room → MeetsNone units_of claims units → FirstRun (bits_in bits) units run
     → (page : ℕ) → in_range (pages_first boot run) (pages_count boot run) page ≡ true → IsInTable boot (claim_of boot entries.items) page
-claimed-in boot entries last table bits claims pages kept room units run s clear first page inside =
-    run-in boot (claim_of boot entries.items) (opened_claim units run []) page first.low first.within (others-clear boot entries last table bits claims pages kept room units s clear) inside
+claimed-in boot entries last table bits claims blocks pages kept room units run s clear first page inside =
+    run-in boot (claim_of boot entries.items) (opened_claim None units run []) page first.low first.within (others-clear boot entries last table bits claims blocks pages kept room units s clear) inside
 
-pub stands-claimed : (boot : Boot) (entries entries' : Vec Entry Global) (last last' : ℕ) (table table' : Table) (bits : Option Bits) (claims claims' : List (Option OpenClaim)) (pages kept kept' room left : ℕ) (turn : Turn) (units run : Units) (later : Vec Units Global) (asked : Pages) (span : Taken)
-    → StandsFor boot entries last table bits claims pages kept room
+pub stands-claimed : (boot : Boot) (entries entries' : Vec Entry Global) (last last' : ℕ) (table table' : Table) (bits : Option Bits) (claims claims' : List (Option OpenClaim)) (blocks blocks' : State) (pages kept kept' room left : ℕ) (turn : Turn) (block : Option Block) (units run : Units) (later : Vec Units Global) (asked : Pages) (span : Taken)
+    → StandsFor boot entries last table bits claims blocks pages kept room
     → turn.cpu.0 < boot.cpus → claim_of boot entries.items turn.cpu.0 ≡ None → MeetsNone units_of claims units → FirstRun (bits_in bits) units run → units.first + units.count < 2 ^ 64
     → count_such (bits_in bits) units.first units.count < room → AreRunsFrom (bits_in bits) (units_end run) (units_end units) later.items
-    → entries'.items ≡ entries.items ++ bare_entry turn last (Claim None (Some units) (Some run)) ∷ [] → vec_capacity entries ≤ vec_capacity entries'
+    → entries'.items ≡ entries.items ++ bare_entry turn last (Claim block (Some units) (Some run)) ∷ [] → vec_capacity entries ≤ vec_capacity entries'
     → last' ≡ max turn.clock last + 1 → turn.clock < 2 ^ 64 → last < 2 ^ 64
     → asked ≡ pages_of boot run → span.ticket.pages ≡ asked
     → ((page : ℕ) → state_in table'.runs page ≡ cond (in_range asked.first asked.count page) None (state_in table.runs page))
     → table'.out ≡ table.out ++ span.ticket ∷ [] → table.room ≤ span.ticket.room + (2 * run_count (state_in table.runs) asked + 2)
-    → left ≡ room - 1 - run.count → claims' ≡ slice_set claims turn.cpu.0 (Some (made_claim units run later span.ticket left))
-    → kept' ≡ kept + (left + 1) → kept' < 2 ^ 64
-    → StandsFor boot entries' last' table' bits claims' pages kept' 0
-stands-claimed boot entries entries' last last' table table' bits claims claims' pages kept kept' room left turn units run later asked span s low free clear first end need runs_are is more last_is low_clock low_last asked_is taken rest out given left_is claims_is kept_is few =
+    → left ≡ room - 1 - run.count → claims' ≡ slice_set claims turn.cpu.0 (Some (made_claim block units run later span.ticket left))
+    → kept' ≡ kept + (left + 1) → kept' < 2 ^ 64 → BlocksGo boot entries.items (bare_entry turn last (Claim block (Some units) (Some run))) blocks' claims' 0
+    → StandsFor boot entries' last' table' bits claims' blocks' pages kept' 0
+stands-claimed boot entries entries' last last' table table' bits claims claims' blocks blocks' pages kept kept' room left turn block units run later asked span s low free clear first end need runs_are is more last_is low_clock low_last asked_is taken rest out given left_is claims_is kept_is few go =
     let cpu = turn.cpu.0 in
     let calls = calls_of boot entries.items in
-    let o = made_claim units run later span.ticket left in
-    let claim = opened_claim units run calls in
-    let event = Claim None (Some units) (Some run) in
+    let o = made_claim block units run later span.ticket left in
+    let claim = opened_claim block units run calls in
+    let event = Claim block (Some units) (Some run) in
     let counts = first.counts in
     let some = first.some in
     let inside : cpu < length claims = (let places = s.places in let few = s.booted.cpus in omega (arith, low, places, few)) in
@@ -111,6 +116,7 @@ stands-claimed boot entries entries' last last' table table' bits claims claims'
     let less : (room - 1) * (2 * pages + 2) ≤ room * (2 * pages + 2) = mul-le-mul_right (2 * pages + 2) (let l : room - 1 ≤ room = omega arith in l) in
     subst P size (omega (arith, all, less))) in
     let opened : OpenStands boot (bits_in bits) table'.out o claim = record {
+      block = refl;
       units = refl;
       run = refl;
       cleared = refl;
@@ -140,7 +146,7 @@ stands-claimed boot entries entries' last last' table table' bits claims claims'
     let P : List ModuleCall → Type 0 = λ cs. HoldsFor boot cs (claim_of boot entries'.items) table'.runs table'.out (bits_in bits) (kept_of claims') in
     record {
       booted = s.booted;
-      holds = subst P (sym (ap (calls_of boot) is ∙ calls-claimed boot entries.items turn last (Some units) (Some run)))
+      holds = subst P (sym (ap (calls_of boot) is ∙ calls-claimed boot entries.items turn last block (Some units) (Some run)))
           (holds-open boot calls (claim_of boot entries.items) (claim_of boot entries'.items) table.runs table'.runs table.out table'.out (bits_in bits) (kept_of claims) (kept_of claims') cpu o claim
           s.holds free
           (record { claimed = λ other differ. ap (λ (f : ℕ → Option Claimed). f other) now ∙ claim-other boot entries.items turn last event other differ; keeps = kept_others })
@@ -149,8 +155,8 @@ stands-claimed boot entries entries' last last' table table' bits claims claims'
           (λ page. rest page ∙ ap (λ (p : Pages). cond (in_range p.first p.count page) None (state_in table.runs page)) asked_is)
           (λ ticket was. let Q : List Ticket → Type 0 = λ ts. is_out ts ticket ≡ true in subst Q (sym out) (is_out-more table.out span.ticket ticket was))
           opened
-          (λ d b is_open. (others-clear boot entries last table bits claims pages kept room units s clear d b is_open).2)
-          (λ d b is_open. apart-of b.units units (clear-of boot entries last table bits claims pages kept room s units clear d b is_open)));
+          (λ d b is_open. (others-clear boot entries last table bits claims blocks pages kept room units s clear d b is_open).2)
+          (λ d b is_open. apart-of b.units units (clear-of boot entries last table bits claims blocks pages kept room s units clear d b is_open)));
       same_bits = s.same_bits;
       last_is = last_is ∙ sym (ap last_stamp is ∙ last-push entries.items turn last event s.last_is);
       places = ap (λ (cs : List (Option OpenClaim)). length cs) claims_is ∙ length-set claims cpu (Some o) ∙ s.places;
@@ -161,5 +167,8 @@ stands-claimed boot entries entries' last last' table table' bits claims claims'
       entry_room = omega (arith, long, fits, more, kept_is, left_is, some, counts, need);
       table_room = omega arith;
       stamps = omega (arith, last_is, low_clock, low_last, few);
-      steady = steady-push boot entries.items entries'.items turn last event is s.last_is s.steady (λ other claimed page differ has inside. ap (λ cs. page_state boot cs page) (calls-claimed boot entries.items turn last (Some units) (Some run)));
+      steady = steady-push boot entries.items entries'.items turn last event is s.last_is s.steady go.falls (λ other claimed page differ has inside. ap (λ cs. page_state boot cs page) (calls-claimed boot entries.items turn last block (Some units) (Some run)));
+      settled = subst (Settled boot) (sym is) go.settled;
+      blocks_are = (let B : List Entry → Type 0 = λ es. BlocksAfter boot es blocks' in subst B (sym is) go.blocks_are);
+      block_room = go.enough;
     }

@@ -1,32 +1,34 @@
-use Rattle.std.proofs.Common.{◌≡◌, ℕ, ◌+◌, ◌^◌, ◌<◌, Option, None, Some, List, [], ◌∷◌, ◌++◌, refl, sym, ◌∙◌, ap, subst, arith, max, length}
+use Rattle.std.proofs.Common.{◌≡◌, ℕ, ◌+◌, ◌^◌, ◌<◌, ◌≤◌, Option, None, Some, List, [], ◌∷◌, ◌++◌, refl, sym, ◌∙◌, ap, subst, arith, max, length}
 use Rattle.std.specs.Prelude.{slice_set, map}
 use Rattle.std.specs.Option.{ForSome, option_and_then}
 use Rattle.guest_base.specs.Search.{count_such}
 use Rattle.guest_base.proofs.SearchLemmas.{count_such_same}
+use Rattle.guest_base.specs.declared.memory.Block.{Block}
 use Rattle.guest_base.specs.declared.memory.Units.{Units}
 use Rattle.event_core.specs.declared.boot.Boot.{Boot}
 use Rattle.event_core.specs.declared.entry.Entry.{Entry}
 use Rattle.event_core.specs.declared.entry.Turn.{Turn}
 use Rattle.event_core.specs.declared.event.Event.{Event}
-use Rattle.event_core.specs.declared.event.Event.TheVariants.{Claim}
 use Rattle.event_core.specs.declared.module_call.ModuleCall.{ModuleCall}
 use Rattle.event_core.specs.Acceptance.{stop_of}
 use Rattle.event_core.specs.Calls.{calls_of}
-use Rattle.event_core.specs.Claims.{Claimed, in_the_way}
+use Rattle.event_core.specs.Claims.{Claimed, claim_of, in_the_way}
 use Rattle.event_core.specs.MemoryRows.{page_state, run_of_claim, next_run}
-use Rattle.event_core.specs.Units.{bit_after, guarded_units, first_run}
+use Rattle.event_core.specs.Units.{bit_after, first_run}
 use Rattle.page_module.specs.Spans.{Taken}
 use Rattle.event_core.specs.Table.{Bits}
 use Rattle.accepting_ranges.specs.Claims.{kept_of, MeetsNone}
+use Rattle.block_laws.proofs.FitFacts.{ClaimFits}
 use Rattle.memory_core.specs.OpenClaims.{units_of, MeetsNoOther}
-use Rattle.memory_core.specs.Bitmaps.{bits_in, guarded_by, both_or_none, SameBits}
+use Rattle.memory_core.specs.Bitmaps.{bits_in, both_or_none}
 use Rattle.memory_core.specs.Value.{MemoryValue, Handed}
-use Rattle.memory_core.specs.Steps.{last_stamp, bare_entry, Appends, HasStates, IsOutFor, unaccepted_count}
+use Rattle.memory_core.specs.Waiting.{waiting_left}
+use Rattle.memory_core.specs.Steps.{last_stamp, bare_entry, Appends, HasStates, IsForLowest, IsOutFor, unaccepted_count}
 use Rattle.memory_core.specs.StandsFor.{handed_for}
-use Rattle.memory_core.specs.Answers.{OthersKeep, Opens, GoesOn, Closes}
+use Rattle.memory_core.specs.Answers.{OthersKeep, Opens, GoesOn, Closes, UsesFor, room_after}
 use Rattle.memory_core.specs.declared.claims.OpenClaim.{OpenClaim}
 use Rattle.memory_core.proofs.BeginLemmas.{FirstRun, first-run}
-use Rattle.memory_core.proofs.BitsLemmas.{guarded-same, run-same}
+use Rattle.memory_core.proofs.BitsLemmas.{run-same}
 use Rattle.memory_core.proofs.OpenLemmas.{kept-same, kept-other, handed-is}
 
 -- the memory as contracts see it
@@ -48,9 +50,9 @@ both-is None R pair is = cc
 both-is (Some units) None pair is = cc
 both-is (Some units) (Some run) pair is = let same : (units, run) ≡ pair = cc in (ap (λ (p : Units × Units). Some p.0) same, ap (λ (p : Units × Units). Some p.1) same)
 
-pub record ClaimedFacts (boot : Boot) (entries : List Entry) (bits : Option Bits) (claims : List (Option OpenClaim)) (guarded : Option Units) (room : ℕ) (units run : Units) : Type 0 where
-  pub units_are : guarded ≡ Some units
-  pub run_is : run_of_claim boot entries guarded ≡ Some run
+pub record ClaimedFacts (boot : Boot) (entries : List Entry) (bits : Option Bits) (claims : List (Option OpenClaim)) (asked : Option Units) (room : ℕ) (units run : Units) : Type 0 where
+  pub units_are : asked ≡ Some units
+  pub run_is : run_of_claim boot entries asked ≡ Some run
   pub first : FirstRun (bits_in bits) units run
   pub clear : MeetsNone units_of claims units
   pub end : units.first + units.count < 2 ^ 64
@@ -60,19 +62,18 @@ pub record ClaimedFacts (boot : Boot) (entries : List Entry) (bits : Option Bits
 units-end : (U : Option Units) (units : Units) → U ≡ Some units → ForSome U (λ u. u.first + u.count < 2 ^ 64) → units.first + units.count < 2 ^ 64
 units-end U units is end = let P : Option Units → Type 0 = λ o. ForSome o (λ (u : Units). u.first + u.count < 2 ^ 64) in let here : ForSome (Some units) (λ (u : Units). u.first + u.count < 2 ^ 64) = subst P is end in here units refl
 
-pub claimed-facts : (boot : Boot) (entries : List Entry) (claims : List (Option OpenClaim)) (room : ℕ) (v : MemoryValue) (bits : Option Bits) (start len : ℕ) (U R : Option Units) (pair : Units × Units)
-    → seen boot entries claims room ≡ v → SameBits boot bits → ((unit : ℕ) → bits_in bits unit ≡ bit_after boot (calls_of boot entries) unit)
-    → U ≡ guarded_by bits start len → ForSome U (λ u. u.first + u.count < 2 ^ 64)
+pub claimed-facts : (boot : Boot) (entries : List Entry) (claims : List (Option OpenClaim)) (room : ℕ) (v : MemoryValue) (bits : Option Bits) (U R : Option Units) (pair : Units × Units)
+    → seen boot entries claims room ≡ v → ((unit : ℕ) → bits_in bits unit ≡ bit_after boot (calls_of boot entries) unit)
+    → ForSome U (λ u. u.first + u.count < 2 ^ 64)
     → R ≡ option_and_then (λ (u : Units). first_run (bits_in bits) u.first (u.first + u.count)) U
     → both_or_none U R ≡ Some pair → MeetsNoOther claims U
-    → unaccepted_count v.boot v.entries (guarded_units v.boot start len) < v.room
-    → ClaimedFacts boot entries bits claims (guarded_units boot start len) room pair.0 pair.1
-claimed-facts boot entries claims room v bits start len U R pair view same set is_units end is_run both clear need =
+    → unaccepted_count v.boot v.entries U < v.room
+    → ClaimedFacts boot entries bits claims U room pair.0 pair.1
+claimed-facts boot entries claims room v bits U R pair view set end is_run both clear need =
     let two = both-is U R pair both in
-    let guarded : guarded_units boot start len ≡ U = sym (is_units ∙ guarded-same boot bits start len same) in
     let run : run_of_claim boot entries U ≡ Some pair.1 = sym (run-same boot entries (bits_in bits) U set) ∙ sym is_run ∙ two.1 in
     let found : first_run (bits_in bits) pair.0.first (pair.0.first + pair.0.count) ≡ Some pair.1 = ap (option_and_then (λ (u : Units). first_run (bits_in bits) u.first (u.first + u.count))) (sym two.0) ∙ sym is_run ∙ two.1 in
-    let M : MemoryValue → Type 0 = λ m. unaccepted_count m.boot m.entries (guarded_units m.boot start len) < m.room in
+    let M : MemoryValue → Type 0 = λ m. unaccepted_count m.boot m.entries U < m.room in
     let N : Option Units → Type 0 = λ u. unaccepted_count boot entries u < room in
     let C : Option Units → Type 0 = MeetsNoOther claims in
     let K : ℕ → Type 0 = λ n. n < room in
@@ -80,10 +81,10 @@ claimed-facts boot entries claims room v bits start len U R pair view same set i
     let counts = first.counts in
     let all : count_such (bits_in bits) pair.0.first pair.0.count < room =
     subst K (sym (count_such_same (bits_in bits) (bit_after boot (calls_of boot entries)) pair.0.first pair.0.count (record { same = λ unit low high. set unit })))
-    (subst N (guarded ∙ two.0) (subst M (sym view) need)) in
+    (subst N two.0 (subst M (sym view) need)) in
     record {
-      units_are = guarded ∙ two.0;
-      run_is = ap (run_of_claim boot entries) guarded ∙ run;
+      units_are = two.0;
+      run_is = run;
       first = first;
       clear = subst C two.0 clear;
       end = units-end U pair.0 two.0 end;
@@ -96,26 +97,39 @@ no-run boot entries None R both is = refl
 no-run boot entries (Some units) None both is = sym is
 no-run boot entries (Some units) (Some run) both is = cc
 
--- nothing is claimed
-pub none-claimed : (boot : Boot) (entries : List Entry) (bits : Option Bits) (start len : ℕ) (U R : Option Units) → SameBits boot bits → ((unit : ℕ) → bits_in bits unit ≡ bit_after boot (calls_of boot entries) unit)
-    → U ≡ guarded_by bits start len → R ≡ option_and_then (λ (u : Units). first_run (bits_in bits) u.first (u.first + u.count)) U → both_or_none U R ≡ None
-    → run_of_claim boot entries (guarded_units boot start len) ≡ None
-none-claimed boot entries bits start len U R same set is_units is_run both =
-    ap (run_of_claim boot entries) (sym (is_units ∙ guarded-same boot bits start len same)) ∙ no-run boot entries U R both (is_run ∙ run-same boot entries (bits_in bits) U set)
+-- the run is the definition's
+pub run-is : (boot : Boot) (entries : List Entry) (bits : Option Bits) (U R : Option Units) → ((unit : ℕ) → bits_in bits unit ≡ bit_after boot (calls_of boot entries) unit)
+    → R ≡ option_and_then (λ (u : Units). first_run (bits_in bits) u.first (u.first + u.count)) U → R ≡ run_of_claim boot entries U
+run-is boot entries bits U R set is_run = is_run ∙ run-same boot entries (bits_in bits) U set
 
--- the claim's event is the definition's
-pub claim-is : (boot : Boot) (entries : List Entry) (bits : Option Bits) (start len : ℕ) (U R : Option Units) → SameBits boot bits → ((unit : ℕ) → bits_in bits unit ≡ bit_after boot (calls_of boot entries) unit)
-    → U ≡ guarded_by bits start len → R ≡ option_and_then (λ (u : Units). first_run (bits_in bits) u.first (u.first + u.count)) U
-    → Claim None U R ≡ Claim None (guarded_units boot start len) (run_of_claim boot entries (guarded_units boot start len))
-claim-is boot entries bits start len U R same set is_units is_run =
-    let guarded : U ≡ guarded_units boot start len = is_units ∙ guarded-same boot bits start len same in
-    ap (Claim None U) (is_run ∙ run-same boot entries (bits_in bits) U set) ∙ ap (λ u. Claim None u (run_of_claim boot entries u)) guarded
+-- nothing is claimed
+pub none-claimed : (boot : Boot) (entries : List Entry) (bits : Option Bits) (U R : Option Units) → ((unit : ℕ) → bits_in bits unit ≡ bit_after boot (calls_of boot entries) unit)
+    → R ≡ option_and_then (λ (u : Units). first_run (bits_in bits) u.first (u.first + u.count)) U → both_or_none U R ≡ None
+    → run_of_claim boot entries U ≡ None
+none-claimed boot entries bits U R set is_run both = no-run boot entries U R both (run-is boot entries bits U R set is_run)
+
+-- what it uses
+pub uses-for : (old new : MemoryValue) (block : Option Block) → new.out ≡ old.out → 0 < old.room → new.room ≡ room_after block old.room → UsesFor block old new
+uses-for old new None out some room = record { out = out; room = omega (arith, some, room) }
+uses-for old new (Some block) out some room = record { out = out; room = room }
+
+-- the claim fits
+pub claim-fits : (boot : Boot) (entries : List Entry) (claims : List (Option OpenClaim)) (room : ℕ) (v : MemoryValue) (bits : Option Bits) (cpu : ℕ) (block : Option Block) (U R : Option Units)
+    → seen boot entries claims room ≡ v → claim_of v.boot v.entries cpu ≡ None → ((unit : ℕ) → bits_in bits unit ≡ bit_after boot (calls_of boot entries) unit)
+    → R ≡ option_and_then (λ (u : Units). first_run (bits_in bits) u.first (u.first + u.count)) U → ForSome block (IsForLowest v U)
+    → ClaimFits boot entries cpu block U R
+claim-fits boot entries claims room v bits cpu block U R view free set is_run lowest = record {
+  none = ap (λ (m : MemoryValue). claim_of m.boot m.entries cpu) view ∙ free;
+  found = run-is boot entries bits U R set is_run;
+  lowest = λ b is. (let P : MemoryValue → Type 0 = λ m. IsForLowest m U b in let at : IsForLowest (seen boot entries claims room) U b = subst P (sym view) (lowest b is) in (at.lowest, at.guarded));
+}
 
 -- what is out with the others stays, where no module call was made
-pub others-kept : (boot : Boot) (entries entries' : List Entry) (claims claims' : List (Option OpenClaim)) (room room' cpu : ℕ) (k : Option OpenClaim) → calls_of boot entries' ≡ calls_of boot entries → claims' ≡ slice_set claims cpu k → OthersKeep (seen boot entries claims room) (seen boot entries' claims' room') cpu
-others-kept boot entries entries' claims claims' room room' cpu k calls is = record {
+pub others-kept : (boot : Boot) (entries entries' : List Entry) (claims claims' : List (Option OpenClaim)) (room room' cpu : ℕ) (k : Option OpenClaim) → calls_of boot entries' ≡ calls_of boot entries → waiting_left boot entries' ≤ waiting_left boot entries → claims' ≡ slice_set claims cpu k → OthersKeep (seen boot entries claims room) (seen boot entries' claims' room') cpu
+others-kept boot entries entries' claims claims' room room' cpu k calls falls is = record {
   handed = λ other differ. handed-is claims' other ∙ ap (λ cs. handed_for (kept_of cs other)) is ∙ ap handed_for (kept-other claims cpu other k differ) ∙ sym (handed-is claims other);
   states = λ other claim page differ has inside. ap (λ cs. page_state boot cs page) calls;
+  waiting = falls;
 }
 
 -- what is out with the processor is the span of the run

@@ -7,7 +7,9 @@ use Rattle.guest_base.specs.Ranges.{in_range}
 use Rattle.guest_base.specs.Search.{any_such, count_such}
 use Rattle.guest_base.proofs.SearchLemmas.{any_such_same, count_such_same}
 use Rattle.guest_base.specs.declared.memory.Pages.{Pages}
+use Rattle.guest_base.specs.declared.memory.Block.{Block}
 use Rattle.guest_base.specs.declared.memory.Units.{Units}
+use Rattle.event_core.specs.Blocks.{block_units}
 use Rattle.event_core.specs.declared.boot.Boot.{Boot}
 use Rattle.event_core.specs.declared.entry.Entry.{Entry}
 use Rattle.event_core.specs.Calls.{calls_of}
@@ -135,6 +137,12 @@ guarded-same boot (Some b) start len same =
     ap (λ u. guarded u b.base (unit_count b.bits) start len) same.0
     ∙ ap (λ a. guarded boot.unit a (unit_count b.bits) start len) same.1
     ∙ ap (λ n. guarded boot.unit boot.base (8 * n) start len) same.2
+
+-- also of a block
+pub block-units-same : (boot : Boot) (bits : Option Bits) (block : Option Block) → SameBits boot bits
+    → option_and_then (λ (b : Block). guarded_by bits (4096 * b.first) (4096 * 2 ^ b.order)) block ≡ option_and_then (block_units boot) block
+block-units-same boot bits None same = refl
+block-units-same boot bits (Some b) same = guarded-same boot bits (4096 * b.first) (4096 * 2 ^ b.order) same
 
 -- so is the first run of unaccepted units
 pub run-same : (boot : Boot) (entries : List Entry) (set : ℕ → Bool) (units : Option Units) → ((unit : ℕ) → set unit ≡ bit_after boot (calls_of boot entries) unit) → option_and_then (λ (u : Units). first_run set u.first (u.first + u.count)) units ≡ run_of_claim boot entries units

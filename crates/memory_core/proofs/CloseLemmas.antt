@@ -23,12 +23,16 @@ use Rattle.page_module.proofs.OutLemmas.{length-without}
 use Rattle.event_core.specs.Table.{Bits}
 use Rattle.accept_sizes.specs.Accepts.{pending_of}
 use Rattle.accept_sizes.specs.declared.accept.RunEnd.{RunEnd}
+use Rattle.block_allocator.specs.State.{State}
 use Rattle.accepting_ranges.specs.Claims.{kept_of}
 use Rattle.accepting_ranges.proofs.ClaimLemmas.{kept_of-inside}
 use Rattle.memory_core.specs.Bitmaps.{bits_in}
+use Rattle.memory_core.specs.KeptBlocks.{BlocksAfter}
+use Rattle.memory_core.specs.Settled.{Settled}
 use Rattle.memory_core.specs.Steps.{bare_entry, last_stamp, pages_of}
 use Rattle.memory_core.specs.StandsFor.{StandsFor, HoldsFor, spans_of, reports_of}
 use Rattle.memory_core.specs.declared.claims.OpenClaim.{OpenClaim}
+use Rattle.memory_core.proofs.BlockStepLemmas.{BlocksGo}
 use Rattle.memory_core.proofs.HoldsLemmas.{OthersSame}
 use Rattle.memory_core.proofs.BitsLemmas.{cleared-same}
 use Rattle.memory_core.proofs.StepLemmas.{steady-push, last-push, claim-mine, claim-other}
@@ -57,15 +61,15 @@ others-after boot entries entries' turn last claim now claims claims' k is claim
 
 -- ---- the claim is closed
 
-pub stands-closed : (boot : Boot) (entries entries' : Vec Entry Global) (last last' : ℕ) (table table' : Table) (bits bits' : Option Bits) (claims claims' : List (Option OpenClaim)) (pages kept kept' room : ℕ) (turn : Turn) (now : List ModuleCall) (o : OpenClaim) (claim : Claimed) (span : Taken) (end : RunEnd) (cleared : ℕ)
-    → StandsFor boot entries last table bits claims pages kept room
+pub stands-closed : (boot : Boot) (entries entries' : Vec Entry Global) (last last' : ℕ) (table table' : Table) (bits bits' : Option Bits) (claims claims' : List (Option OpenClaim)) (blocks blocks' : State) (pages kept kept' room : ℕ) (turn : Turn) (now : List ModuleCall) (o : OpenClaim) (claim : Claimed) (span : Taken) (end : RunEnd) (cleared : ℕ)
+    → StandsFor boot entries last table bits claims blocks pages kept room
     → ReportsIn boot entries.items now table table' bits bits' claims turn.cpu.0 o claim span end cleared
     → entries'.items ≡ entries.items ++ bare_entry turn last (report_event boot claim now) ∷ [] → vec_capacity entries ≤ vec_capacity entries'
     → last' ≡ max turn.clock last + 1 → turn.clock ≤ max (2 ^ 64) last
     → next_run boot claim (stop_of now) ≡ None
-    → claims' ≡ slice_set claims turn.cpu.0 None → kept' ≡ kept - (o.room + 1) → table.room ≤ table'.room
-    → StandsFor boot entries' last' table' bits' claims' pages kept' room
-stands-closed boot entries entries' last last' table table' bits bits' claims claims' pages kept kept' room turn now o claim span end cleared s r is more last_is clock none claims_is kept_is has =
+    → claims' ≡ slice_set claims turn.cpu.0 None → kept' ≡ kept - (o.room + 1) → table.room ≤ table'.room → BlocksGo boot entries.items (bare_entry turn last (report_event boot claim now)) blocks' claims' room
+    → StandsFor boot entries' last' table' bits' claims' blocks' pages kept' room
+stands-closed boot entries entries' last last' table table' bits bits' claims claims' blocks blocks' pages kept kept' room turn now o claim span end cleared s r is more last_is clock none claims_is kept_is has go =
     let cpu = turn.cpu.0 in
     let calls = calls_of boot entries.items in
     let mine = opened boot calls now (claim_of boot entries.items) table table' bits bits' (kept_of claims) cpu o claim span end cleared r in
@@ -104,14 +108,17 @@ stands-closed boot entries entries' last last' table table' bits bits' claims cl
       table_room = omega (arith, pieces, has);
       stamps = omega (arith, last_is, clock, stamps, kept_is, sums, reports_was, reports);
       steady =
-          steady-push boot entries.items entries'.items turn last (report_event boot claim now) is s.last_is s.steady
+          steady-push boot entries.items entries'.items turn last (report_event boot claim now) is s.last_is s.steady go.falls
           (λ other b page differ has inside. ap (λ cs. page_state boot cs page) (calls_of-push boot entries.items (bare_entry turn last (report_event boot claim now))) ∙ others-states boot calls now (claim_of boot entries.items) table table' bits bits' (kept_of claims) cpu o claim span end cleared r other b page differ has inside);
+      settled = subst (Settled boot) (sym is) go.settled;
+      blocks_are = (let B : List Entry → Type 0 = λ es. BlocksAfter boot es blocks' in subst B (sym is) go.blocks_are);
+      block_room = go.enough;
     }
 
 -- ---- the claim goes on
 
-pub stands-next : (boot : Boot) (entries entries' : Vec Entry Global) (last last' : ℕ) (table table' last_table : Table) (bits bits' : Option Bits) (claims claims' : List (Option OpenClaim)) (pages kept kept' room : ℕ) (turn : Turn) (now : List ModuleCall) (o next : OpenClaim) (claim : Claimed) (span span' : Taken) (end : RunEnd) (cleared : ℕ) (run : Units) (asked : Pages)
-    → StandsFor boot entries last table bits claims pages kept room
+pub stands-next : (boot : Boot) (entries entries' : Vec Entry Global) (last last' : ℕ) (table table' last_table : Table) (bits bits' : Option Bits) (claims claims' : List (Option OpenClaim)) (blocks blocks' : State) (pages kept kept' room : ℕ) (turn : Turn) (now : List ModuleCall) (o next : OpenClaim) (claim : Claimed) (span span' : Taken) (end : RunEnd) (cleared : ℕ) (run : Units) (asked : Pages)
+    → StandsFor boot entries last table bits claims blocks pages kept room
     → ReportsIn boot entries.items now table table' bits bits' claims turn.cpu.0 o claim span end cleared
     → entries'.items ≡ entries.items ++ bare_entry turn last (report_event boot claim now) ∷ [] → vec_capacity entries ≤ vec_capacity entries'
     → last' ≡ max turn.clock last + 1 → turn.clock ≤ max (2 ^ 64) last
@@ -120,9 +127,9 @@ pub stands-next : (boot : Boot) (entries entries' : Vec Entry Global) (last last
     → cleared ≤ claim.run.count → o.ticket.room ≤ table'.room → asked ≡ pages_of boot run → span'.ticket.pages ≡ asked
     → ((page : ℕ) → state_in last_table.runs page ≡ cond (in_range asked.first asked.count page) None (state_in table'.runs page))
     → last_table.out ≡ table'.out ++ span'.ticket ∷ [] → table'.room ≤ span'.ticket.room + (2 * run_count (state_in table'.runs) asked + 2)
-    → claims' ≡ slice_set claims turn.cpu.0 (Some next) → kept' ≡ kept - run.count
-    → StandsFor boot entries' last' last_table bits' claims' pages kept' 0
-stands-next boot entries entries' last last' table table' last_table bits bits' claims claims' pages kept kept' room turn now o next claim span span' end cleared run asked s r is more last_is clock stop is_next some less next_is few has asked_is taken rest out given claims_is kept_is =
+    → claims' ≡ slice_set claims turn.cpu.0 (Some next) → kept' ≡ kept - run.count → BlocksGo boot entries.items (bare_entry turn last (report_event boot claim now)) blocks' claims' 0
+    → StandsFor boot entries' last' last_table bits' claims' blocks' pages kept' 0
+stands-next boot entries entries' last last' table table' last_table bits bits' claims claims' blocks blocks' pages kept kept' room turn now o next claim span span' end cleared run asked s r is more last_is clock stop is_next some less next_is few has asked_is taken rest out given claims_is kept_is go =
     let cpu = turn.cpu.0 in
     let calls = calls_of boot entries.items in
     let mine = opened boot calls now (claim_of boot entries.items) table table' bits bits' (kept_of claims) cpu o claim span end cleared r in
@@ -163,6 +170,9 @@ stands-next boot entries entries' last last' table table' last_table bits bits' 
       table_room = omega arith;
       stamps = omega (arith, last_is, clock, stamps, kept_is, sums, reports_was, reports, some, less, next_room);
       steady =
-          steady-push boot entries.items entries'.items turn last (report_event boot claim now) is s.last_is s.steady
+          steady-push boot entries.items entries'.items turn last (report_event boot claim now) is s.last_is s.steady go.falls
           (λ other b page differ has inside. ap (λ cs. page_state boot cs page) (calls_of-push boot entries.items (bare_entry turn last (report_event boot claim now))) ∙ others-states boot calls now (claim_of boot entries.items) table table' bits bits' (kept_of claims) cpu o claim span end cleared r other b page differ has inside);
+      settled = subst (Settled boot) (sym is) go.settled;
+      blocks_are = (let B : List Entry → Type 0 = λ es. BlocksAfter boot es blocks' in subst B (sym is) go.blocks_are);
+      block_room = go.enough;
     }

@@ -59,6 +59,7 @@ open-moves boot bit bit' tickets tickets' o claim stay still stands =
     let low = stands.low in
     let within = stands.within in
     record {
+      block = stands.block;
       units = stands.units;
       run = stands.run;
       cleared = stands.cleared;

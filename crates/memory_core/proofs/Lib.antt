@@ -14,4 +14,15 @@ pub mod PartsLemmas
 pub mod BegunLemmas
 pub mod ReportedLemmas
 pub mod UnderLockLemmas
+pub mod CutLemmas
+pub mod BlocksLemmas
+pub mod BlockStepLemmas
 pub mod Sent
+pub mod FlightLemmas
+pub mod OutLemmas
+pub mod TouchLemmas
+pub mod LookLemmas
+pub mod ClaimedLookLemmas
+pub mod WaitingLemmas
+pub mod SettledLemmas
+pub mod HomeLemmas

@@ -21,6 +21,7 @@ use Rattle.page_module.specs.States.{state_in}
 use Rattle.page_module.specs.Tables.{Table, run_count}
 use Rattle.page_module.proofs.CopyLemmas.{run_count-few}
 use Rattle.event_core.specs.Table.{Bits}
+use Rattle.block_allocator.specs.State.{State}
 use Rattle.accepting_ranges.specs.Claims.{kept_of, Meet, MeetsNone}
 use Rattle.memory_core.specs.OpenClaims.{units_of, MeetsNoOther, IsFirstMet}
 use Rattle.memory_core.specs.Bitmaps.{bits_in}
@@ -52,7 +53,7 @@ meets-swap a b apart (unit, in_b, in_a) = apart (unit, in_a, in_b)
 no_none : {A : Type 0} (o : Option A) (x : A) → o ≡ None → o ≡ Some x → ⊥
 no_none o x none some = let no : None ≡ Some x = sym none ∙ some in cc
 
-module _ (boot : Boot) (entries : Vec Entry Global) (last : ℕ) (table : Table) (bits : Option Bits) (claims : List (Option OpenClaim)) (pages kept room : ℕ) (s : StandsFor boot entries last table bits claims pages kept room) where
+module _ (boot : Boot) (entries : Vec Entry Global) (last : ℕ) (table : Table) (bits : Option Bits) (claims : List (Option OpenClaim)) (blocks : State) (pages kept room : ℕ) (s : StandsFor boot entries last table bits claims blocks pages kept room) where
   pub open-low : (cpu : ℕ) (claim : Claimed) → claim_of boot entries.items cpu ≡ Some claim → cpu < boot.cpus
   open-low cpu claim is =
       let found = open-kept boot (bits_in bits) table.out (kept_of claims cpu) (claim_of boot entries.items cpu) claim is (s.holds.open_claims cpu) in

@@ -11,7 +11,7 @@ use Rattle.event_core.specs.declared.boot.Boot.{Boot}
 use Rattle.event_core.specs.declared.boot.Descriptor.{Descriptor}
 use Rattle.event_core.specs.declared.entry.Entry.{Entry}
 use Rattle.event_core.specs.declared.module_call.ModuleCall.{ModuleCall}
-use Rattle.event_core.specs.Boot.{BootRight, Uncalled}
+use Rattle.event_core.specs.Boot.{Uncalled}
 use Rattle.event_core.specs.Calls.{calls_of, SoundCalls}
 use Rattle.event_core.specs.Claims.{Claimed, claim_of}
 use Rattle.event_core.specs.Given.{FitsGiven, unit_by, base_by}
@@ -25,19 +25,26 @@ use Rattle.event_core.specs.Table.{Bits, is_unit}
 use Rattle.event_core.specs.Units.{bit_of, bit_after, is_marked, unit_count, unit_first, unit_pages}
 use Rattle.event_core.proofs.RisingLemmas.{pairs-nil}
 use Rattle.event_core.proofs.BootFacts.{unit-size, IsSize, TakesNone, set-pending, ram-low, boot-marks, boot-takes-none}
+use Rattle.event_laws.specs.Coming.{BootMade}
 use Rattle.page_module.specs.States.{state_in}
 use Rattle.page_module.specs.Tables.{Table, is_out}
 use Rattle.page_module.specs.declared.ticket.Ticket.{Ticket}
+use Rattle.block_allocator.specs.State.{State}
 use Rattle.accepting_ranges.specs.Claims.{kept_of}
 use Rattle.memory_core.specs.Answers.{GivesTable, NoneOpen}
 use Rattle.memory_core.specs.Value.{Handed, MemoryValue}
 use Rattle.memory_core.proofs.BegunLemmas.{seen}
 use Rattle.memory_core.specs.Bitmaps.{bits_in, BitsAfter}
+use Rattle.memory_core.specs.Away.{WaitingFalls}
+use Rattle.memory_core.specs.KeptBlocks.{BlocksAfter, flights_of}
+use Rattle.memory_core.specs.Settled.{Settled}
 use Rattle.memory_core.specs.Booted.{IsBooted, UnitsAreRam}
 use Rattle.memory_core.specs.Steps.{last_stamp, IsInTable}
 use Rattle.memory_core.specs.StandsFor.{StandsFor, HoldsFor, ClaimStands, spans_of, reports_of, handed_for}
 use Rattle.memory_core.specs.declared.claims.OpenClaim.{OpenClaim}
 use Rattle.memory_core.proofs.HoldsLemmas.{stands-none, none-kept}
+use Rattle.memory_core.proofs.BlockStepLemmas.{falls-first}
+use Rattle.memory_core.proofs.SettledLemmas.{settled-first}
 use Rattle.memory_core.proofs.OpenLemmas.{handed-is}
 use Rattle.memory_core.proofs.RunLemmas.{bit-less}
 
@@ -124,20 +131,21 @@ ram-first boot calls begun none unit page set inside is =
     cc
 
 -- the memory of a boot
-pub new-stands : (descriptors : List Descriptor) (given : Option Bits) (hosts : List HostRun) (slots areas cpus : ℕ) (boot value : Boot) (entries : Vec Entry Global) (table : Table) (bits : Option Bits) (claims : List (Option OpenClaim))
-    → value ≡ boot → MapRules descriptors hosts → FitsGiven descriptors given → BootRight descriptors hosts given slots areas cpus boot → SoundCalls (first_state_of boot.ram) boot.calls → boot.cpus ≤ 64
-    → ((page : ℕ) → state_in table.runs page ≡ page_state boot boot.calls page) → table.out ≡ [] → BitsAfter boot boot.calls bits
+pub new-stands : (boot value : Boot) (entries : Vec Entry Global) (table : Table) (bits : Option Bits) (claims : List (Option OpenClaim)) (blocks : State)
+    → value ≡ boot → BootMade boot → SoundCalls (first_state_of boot.ram) boot.calls → boot.cpus ≤ 64
+    → ((page : ℕ) → state_in table.runs page ≡ page_state boot boot.calls page) → table.out ≡ [] → BitsAfter boot boot.calls bits → BlocksAfter boot [] blocks
     → claims ≡ replicate 64 None → entries.items ≡ []
-    → StandsFor value entries 0 table bits claims (boot.unit / 4096) 0 0
-new-stands descriptors given hosts slots areas cpus boot value entries table bits claims same rules fits right sound few states none_out after free none =
+    → StandsFor value entries 0 table bits claims blocks (boot.unit / 4096) 0 0
+new-stands boot value entries table bits claims blocks same made sound few states none_out after blocks_are free none =
     let calls : calls_of boot entries.items ≡ boot.calls = ap (calls_of boot) none ∙ append-nil boot.calls in
     let none_kept = none-at-first claims free in
     let reports = sum-none reports_of claims refl none_kept in
+    let flights = sum-none flights_of claims refl none_kept in
     let long = ap (λ (es : List Entry). length es) none in
-    let begun = booted descriptors hosts given slots areas cpus boot rules fits right.uncalled few in
-    let takes = boot-takes-none descriptors hosts given slots areas cpus boot right in
+    let begun = booted made.descriptors made.hosts made.table made.slots made.areas made.cpus boot made.rules made.fits made.right.uncalled few in
+    let takes = boot-takes-none made.descriptors made.hosts made.table made.slots made.areas made.cpus boot made.right in
     let P : List ModuleCall → Type 0 = λ cs. HoldsFor boot cs (claim_of boot entries.items) table.runs table.out (bits_in bits) (kept_of claims) in
-    let Q : Boot → Type 0 = λ b. StandsFor b entries 0 table bits claims (boot.unit / 4096) 0 0 in
+    let Q : Boot → Type 0 = λ b. StandsFor b entries 0 table bits claims blocks (boot.unit / 4096) 0 0 in
     subst Q (sym same)
     (record {
       booted = begun;
@@ -146,7 +154,7 @@ new-stands descriptors given hosts slots areas cpus boot value entries table bit
             bits = after.set;
             marks = λ unit page set inside.
                 (let was = boot-set boot boot.calls unit takes set in
-                ap (λ b. is_marked b boot.calls page) was ∙ boot-marks descriptors hosts given slots areas cpus boot rules fits right sound unit page was inside);
+                ap (λ b. is_marked b boot.calls page) was ∙ boot-marks made.descriptors made.hosts made.table made.slots made.areas made.cpus boot made.rules made.fits made.right sound unit page was inside);
             ram = ram-first boot boot.calls begun takes;
             states = λ page inside. states page;
             away = λ cpu claim page is. let no : None ≡ Some claim = sym (no-claim boot entries.items none cpu) ∙ is in cc;
@@ -166,12 +174,16 @@ new-stands descriptors given hosts slots areas cpus boot value entries table bit
       steady = record {
         rising = subst Rising (sym none) (pairs-nil ComesBefore);
         runs_keep = λ cpu claim before rest page is. (let no : None ≡ Some claim = sym (no-claim boot entries.items none cpu) ∙ is in cc);
+        waiting = subst (WaitingFalls boot) (sym none) (falls-first boot);
       };
+      settled = subst (Settled boot) (sym none) (settled-first boot made);
+      blocks_are = (let B : List Entry → Type 0 = λ es. BlocksAfter boot es blocks in subst B (sym none) blocks_are);
+      block_room = record { claimed = omega (arith, flights); step = λ some. absurd (omega (arith, some)) };
     })
 
 -- the table of a memory that stands for its entries
-pub gives-table : (boot : Boot) (entries : Vec Entry Global) (last : ℕ) (table : Table) (bits : Option Bits) (claims : List (Option OpenClaim)) (pages kept room : ℕ) → StandsFor boot entries last table bits claims pages kept room → GivesTable (seen boot entries.items claims room) table
-gives-table boot entries last table bits claims pages kept room s = record {
+pub gives-table : (boot : Boot) (entries : Vec Entry Global) (last : ℕ) (table : Table) (bits : Option Bits) (claims : List (Option OpenClaim)) (blocks : State) (pages kept room : ℕ) → StandsFor boot entries last table bits claims blocks pages kept room → GivesTable (seen boot entries.items claims room) table
+gives-table boot entries last table bits claims blocks pages kept room s = record {
   states = s.holds.states;
   away = s.holds.away;
   out = λ cpu handed is. handed-out boot (bits_in bits) table.out (kept_of claims cpu) (claim_of boot entries.items cpu) handed (sym (handed-is claims cpu) ∙ is) (s.holds.open_claims cpu);

@@ -10,7 +10,7 @@ use Rattle.guest_base.specs.declared.memory.Units.{Units}
 use Rattle.event_core.specs.declared.boot.Boot.{Boot}
 use Rattle.event_core.specs.declared.module_call.ModuleCall.{ModuleCall}
 use Rattle.event_core.specs.Claims.{Claimed, goes_on, units_meet}
-use Rattle.event_core.specs.MemoryRows.{page_state, is_pending, pages_first, pages_count, next_run}
+use Rattle.event_core.specs.MemoryRows.{AcceptsUnits, page_state, is_pending, pages_first, pages_count, next_run}
 use Rattle.event_core.specs.Units.{bit_after, unit_first, unit_pages, units_end, units_cleared}
 use Rattle.page_module.specs.Spans.{Taken}
 use Rattle.page_module.specs.States.{state_in}
@@ -28,7 +28,7 @@ use Rattle.memory_core.specs.StandsFor.{HoldsFor, OpenStands, pieces_for}
 use Rattle.memory_core.specs.declared.claims.OpenClaim.{OpenClaim}
 use Rattle.memory_core.proofs.KeptLemmas.{kept-first, kept-rest}
 use Rattle.memory_core.proofs.HoldsLemmas.{open-kept, kept-open, holds-open, holds-close, OthersSame, Returns, one-run, stands-virtual, other-unit, others-page, put_back}
-use Rattle.memory_core.proofs.RunLemmas.{run-stands, run-cleared}
+use Rattle.memory_core.proofs.RunLemmas.{run-stands, run-cleared, run-accepts}
 use Rattle.memory_core.proofs.UnitsLemmas.{first_run-facts, IsRunIn, runs-apart, run-counts, run-page-some}
 use Rattle.memory_core.proofs.BitsLemmas.{cleared-bits, cleared-count}
 use Rattle.memory_core.proofs.StepLemmas.{same-is, not-same}
@@ -124,6 +124,12 @@ module _ (boot : Boot) (calls now : List ModuleCall) (claims : ℕ → Option Cl
       cleared-count boot bits bits' (pending_of span) claim.run cleared r.same_bits r.clears
       ∙ sym (run-cleared boot calls now claim.run (page_state boot calls) (put_back boot calls claim.run span) (state_in r.brings.taken.runs) (state_in span.runs) (bits_in bits) (bits_in bits')
       (stands-virtual boot calls claims table.runs table.out (bits_in bits) kept r.holds) (one-run boot calls now claim.run r.brings.taken span table.runs table'.runs (bits_in bits) (bits_in bits') opened.each returns))
+
+  -- the calls accept the run's pending pages
+  pub accepts : AcceptsUnits boot calls claim.run now
+  accepts =
+      run-accepts boot calls now claim.run (page_state boot calls) (put_back boot calls claim.run span) (state_in r.brings.taken.runs) (state_in span.runs) (bits_in bits) (bits_in bits')
+      (stands-virtual boot calls claims table.runs table.out (bits_in bits) kept r.holds) (one-run boot calls now claim.run r.brings.taken span table.runs table'.runs (bits_in bits) (bits_in bits') opened.each returns)
 
   -- the bits behind the run that were set at the claim are set still
   pub behind : (unit : ℕ) → units_end claim.run ≤ unit → unit < units_end claim.units → bit_after boot claim.before unit ≡ true → bits_in bits' unit ≡ true
@@ -244,6 +250,7 @@ module _ (boot : Boot) (calls now : List ModuleCall) (claims : ℕ → Option Cl
       let runs = runs-few boot run table'.runs asked asked_is in
       let made : OpenClaim = record o { run = run; opened = o.opened + 1; cleared = o.cleared + cleared; ticket = span'.ticket; room = o.room - run.count } in
       let now_open : OpenStands boot (bits_in bits') last_table.out made claim' = record {
+        block = mine.block;
         units = mine.units;
         run = refl;
         cleared = ap (λ n. n + cleared) mine.cleared ∙ ap (λ n. claim.cleared + n) counted;

@@ -1,4 +1,4 @@
-use Rattle.std.proofs.Common.{◌≡◌, ℕ, ◌+◌, ◌^◌, ◌<◌, ◌≤◌, true, Option, None, Some, List, [], ◌∷◌, ◌++◌, refl, max, sym, ◌∙◌, ap, subst, arith, cond}
+use Rattle.std.proofs.Common.{◌≡◌, ◌≢◌, ℕ, ◌+◌, ◌^◌, ◌<◌, ◌≤◌, true, Option, None, Some, List, [], ◌∷◌, ◌++◌, refl, max, sym, ◌∙◌, ap, subst, arith, cond}
 use Rattle.std.specs.Prelude.{slice_set, sum_by, IfSome}
 use Rattle.std.proofs.lemmas.List.Sums.{sum_by-set}
 use Rattle.guest_base.specs.Ranges.{in_range}
@@ -29,6 +29,7 @@ use Rattle.memory_core.specs.Away.{BringsSince, RunsKeep}
 use Rattle.memory_core.specs.Answers.{ReportedBy, Closes, OthersKeep, answer_at}
 use Rattle.memory_core.specs.Bitmaps.{bits_in, SameBits, ClearedIn, next_of}
 use Rattle.memory_core.specs.Value.{MemoryValue, Handed, handed_to}
+use Rattle.memory_core.specs.Waiting.{waiting_left}
 use Rattle.memory_core.specs.Steps.{BringsTo, Appends, bare_entry, last_stamp}
 use Rattle.memory_core.specs.StandsFor.{HoldsFor, handed_for, reports_of}
 use Rattle.memory_core.specs.declared.claims.OpenClaim.{OpenClaim}
@@ -116,12 +117,13 @@ module _ (boot : Boot) (entries : List Entry) (now : List ModuleCall) (table tab
       ap (λ n. n + cleared) mine.cleared ∙ ap (λ n. claim.cleared + n) (counted boot (calls_of boot entries) now (claim_of boot entries) table table' bits bits' (kept_of claims) cpu o claim span end cleared r)
 
   -- what is out with the others stays
-  pub others-reported : (entries' : List Entry) (claims' : List (Option OpenClaim)) (room room' : ℕ) (k : Option OpenClaim) → calls_of boot entries' ≡ calls_of boot entries ++ now → claims' ≡ slice_set claims cpu k → OthersKeep (seen boot entries claims room) (seen boot entries' claims' room') cpu
-  others-reported entries' claims' room room' k calls is = record {
+  pub others-reported : (entries' : List Entry) (claims' : List (Option OpenClaim)) (room room' : ℕ) (k : Option OpenClaim) → calls_of boot entries' ≡ calls_of boot entries ++ now → waiting_left boot entries' ≤ waiting_left boot entries → claims' ≡ slice_set claims cpu k → OthersKeep (seen boot entries claims room) (seen boot entries' claims' room') cpu
+  others-reported entries' claims' room room' k calls falls is = record {
     handed = λ other differ. handed-is claims' other ∙ ap (λ cs. handed_for (kept_of cs other)) is ∙ ap handed_for (kept-other claims cpu other k differ) ∙ sym (handed-is claims other);
     states = λ other b page differ has inside.
         ap (λ cs. page_state boot cs page) calls
         ∙ others-states boot (calls_of boot entries) now (claim_of boot entries) table table' bits bits' (kept_of claims) cpu o claim span end cleared r other b page differ has inside;
+    waiting = falls;
   }
 
   -- the entry is the definition's
@@ -162,9 +164,9 @@ pub kept-next : (claims left claims' : List (Option OpenClaim)) (cpu cpu' : ℕ)
 kept-next claims left claims' cpu cpu' k next rest is same made =
     is ∙ ap (λ n. slice_set left n (Some k)) same ∙ ap (λ cs. slice_set cs cpu (Some k)) rest ∙ set-twice claims cpu None (Some k) ∙ ap (λ x. slice_set claims cpu (Some x)) made
 
-pub reported-closed : (old new : MemoryValue) (turn : Turn) (claim : Claimed) (calls : List ModuleCall) (end : RunEnd) (count : ℕ) → stop_of calls ≡ stopped_at end → next_run old.boot claim (stop_of calls) ≡ None → count ≡ cleared_by old.boot old.entries claim calls → Closes old new turn.cpu.0 → ReportedBy old new turn claim calls (answer_at end count)
-reported-closed old new turn claim calls Whole count stop none is closes = (stop, none, is, closes)
-reported-closed old new turn claim calls (Stopped page) count stop none is closes = (λ no. (let bad : Some page ≡ None = sym stop ∙ no in cc), closes)
+pub reported-closed : (old new : MemoryValue) (turn : Turn) (claim : Claimed) (calls : List ModuleCall) (end : RunEnd) (count : ℕ) → stop_of calls ≡ stopped_at end → next_run old.boot claim (stop_of calls) ≡ None → count ≡ cleared_by old.boot old.entries claim calls → Closes old new turn.cpu.0 → (stop_of calls ≡ None → claim.block ≢ None → waiting_left old.boot new.entries < waiting_left old.boot old.entries) → ReportedBy old new turn claim calls (answer_at end count)
+reported-closed old new turn claim calls Whole count stop none is closes fewer = (stop, none, is, closes, fewer stop)
+reported-closed old new turn claim calls (Stopped page) count stop none is closes fewer = (λ no. (let bad : Some page ≡ None = sym stop ∙ no in cc), closes)
 
 -- the entry of the report was appended
 pub appends-reported : (boot : Boot) (entries : List Entry) (claims : List (Option OpenClaim)) (room : ℕ) (v new : MemoryValue) (turn turned : Turn) (last : ℕ) (claim claim' : Claimed) (now : List ModuleCall)

@@ -7,6 +7,7 @@ use Rattle.guest_base.proofs.memory.Units.TheSendSync as units
 use Rattle.event_core.proofs.entry.Entry.TheSendSync as entry
 use Rattle.page_module.proofs.table.PageTable.TheSendSync as table
 use Rattle.unaccepted_bitmap.proofs.bitmap.Bitmap.TheSendSync as bits
+use Rattle.block_allocator.proofs.store.Blocks.TheSendSync as blocks
 use Rattle.accepting_ranges.proofs.accepting.Accepting.TheSendSync as accepting
 use Rattle.memory_core.proofs.claims.OpenClaim.TheSendSync as claim
 use Rattle.claim_lock.specs.contracts.lock.ClaimLock as Lock
@@ -32,8 +33,11 @@ fields_send =
             (
               accepting.the_send _ _ claim.the_send,
               (
-                search (sendable, units.the_send, crosses) depth 20,
-                (search (sendable, entry.the_send, crosses) depth 20, (search sendable depth 20, (search sendable depth 20, (search sendable depth 20, (search sendable depth 20, tt))))),
+                blocks.the_send,
+                (
+                  search (sendable, units.the_send, crosses) depth 20,
+                  (search (sendable, entry.the_send, crosses) depth 20, (search sendable depth 20, (search sendable depth 20, (search sendable depth 20, (search sendable depth 20, tt))))),
+                ),
               ),
             ),
           ),

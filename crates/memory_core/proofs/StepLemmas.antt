@@ -1,4 +1,4 @@
-use Rattle.std.proofs.Common.{◌≡◌, ◌≢◌, ℕ, ◌⊎◌, ◌+◌, ◌-◌, ◌*◌, ◌^◌, ◌<◌, ◌≤◌, Bool, true, false, Option, None, Some, List, [], ◌∷◌, ◌++◌, refl, sym, ◌∙◌, ap, subst, inl, inr, arith, cond, append-nil, append_assoc, length, max, eq-eqb, eqb-true}
+use Rattle.std.proofs.Common.{◌≡◌, ◌≢◌, ℕ, ◌⊎◌, ◌+◌, ◌*◌, ◌^◌, ◌<◌, ◌≤◌, true, false, Option, None, Some, List, [], ◌∷◌, ◌++◌, refl, sym, ◌∙◌, ap, subst, inl, inr, arith, cond, append-nil, append_assoc, length, max, eq-eqb, eqb-true}
 use Rattle.std.specs.Prelude.{All, fold, Vec, vec_capacity, ◌==◌}
 use Rattle.std.specs.declared.alloc.Global.{Global}
 use Rattle.std.proofs.Math.Path.{fun_ext}
@@ -9,12 +9,13 @@ use Rattle.std.proofs.lemmas.List.Elements.{All-nil, All-cons, All-pop}
 use Rattle.std.proofs.lemmas.List.Quantifiers.{all_pairs_push}
 use Rattle.std.proofs.lemmas.List.Sums.{fold-append}
 use Rattle.guest_base.specs.Ranges.{in_range}
+use Rattle.guest_base.specs.declared.memory.Block.{Block}
 use Rattle.guest_base.specs.declared.memory.Units.{Units}
 use Rattle.event_core.specs.declared.boot.Boot.{Boot}
 use Rattle.event_core.specs.declared.entry.Entry.{Entry}
 use Rattle.event_core.specs.declared.entry.Turn.{Turn}
 use Rattle.event_core.specs.declared.event.Event.{Event}
-use Rattle.event_core.specs.declared.event.Event.TheVariants.{Claim, Asked}
+use Rattle.event_core.specs.declared.event.Event.TheVariants.{Claim}
 use Rattle.event_core.specs.declared.module_call.ModuleCall.{ModuleCall}
 use Rattle.event_core.specs.Calls.{calls_of}
 use Rattle.event_core.specs.Claims.{Claimed, claim_of, claim_step, opened}
@@ -25,12 +26,16 @@ use Rattle.event_core.proofs.RisingLemmas.{all-middle}
 use Rattle.event_core.proofs.StandingLemmas.{calls_of-push, claim_of-push}
 use Rattle.page_module.specs.Tables.{Table}
 use Rattle.event_core.specs.Table.{Bits}
+use Rattle.block_allocator.specs.State.{State}
 use Rattle.accepting_ranges.specs.Claims.{kept_of}
-use Rattle.memory_core.specs.Away.{NoneOf, RunsKeep, Steady}
+use Rattle.memory_core.specs.Away.{NoneOf, RunsKeep, Steady, WaitingFalls}
 use Rattle.memory_core.specs.Bitmaps.{bits_in, both_or_none}
+use Rattle.memory_core.specs.KeptBlocks.{BlocksAfter}
+use Rattle.memory_core.specs.Settled.{Settled}
 use Rattle.memory_core.specs.Steps.{last_stamp, bare_entry}
 use Rattle.memory_core.specs.StandsFor.{StandsFor, HoldsFor}
 use Rattle.memory_core.specs.declared.claims.OpenClaim.{OpenClaim}
+use Rattle.memory_core.proofs.BlockStepLemmas.{BlocksGo}
 use Rattle.memory_core.proofs.ClearLemmas.{nat-cases}
 
 -- ---- one more entry
@@ -41,20 +46,9 @@ last-push entries turn last event is =
     ∙ ap (λ n. max n (max turn.clock last + 1)) (sym is)
     ∙ (let greater : max last (max turn.clock last + 1) ≡ max turn.clock last + 1 = omega arith in greater)
 
-either : {A : Type 0} (b : Bool) (x : A) → cond b x x ≡ x
-either true x = refl
-either false x = refl
-
--- an event without module calls that leaves claims: a query
-pub calls-asked : (boot : Boot) (entries : List Entry) (turn : Turn) (last : ℕ) (found : Bool) → calls_of boot (entries ++ bare_entry turn last (Asked found) ∷ []) ≡ calls_of boot entries
-calls-asked boot entries turn last found = calls_of-push boot entries (bare_entry turn last (Asked found)) ∙ append-nil (calls_of boot entries)
-
-pub claims-asked : (boot : Boot) (entries : List Entry) (turn : Turn) (last : ℕ) (found : Bool) → claim_of boot (entries ++ bare_entry turn last (Asked found) ∷ []) ≡ claim_of boot entries
-claims-asked boot entries turn last found = fun_ext (λ cpu. claim_of-push boot entries (bare_entry turn last (Asked found)) cpu ∙ either (turn.cpu.0 == cpu) (claim_of boot entries cpu))
-
 -- a claim's event has no module calls
-pub calls-claimed : (boot : Boot) (entries : List Entry) (turn : Turn) (last : ℕ) (units run : Option Units) → calls_of boot (entries ++ bare_entry turn last (Claim None units run) ∷ []) ≡ calls_of boot entries
-calls-claimed boot entries turn last units run = calls_of-push boot entries (bare_entry turn last (Claim None units run)) ∙ append-nil (calls_of boot entries)
+pub calls-claimed : (boot : Boot) (entries : List Entry) (turn : Turn) (last : ℕ) (block : Option Block) (units run : Option Units) → calls_of boot (entries ++ bare_entry turn last (Claim block units run) ∷ []) ≡ calls_of boot entries
+calls-claimed boot entries turn last block units run = calls_of-push boot entries (bare_entry turn last (Claim block units run)) ∙ append-nil (calls_of boot entries)
 
 pub same-is : (cpu : ℕ) → (cpu == cpu) ≡ true
 same-is cpu = eq-eqb cpu cpu refl
@@ -76,19 +70,19 @@ claim-other boot entries turn last event other differ =
     claim_of-push boot entries (bare_entry turn last event) other
     ∙ ap (λ b. cond b (claim_step boot (calls_of boot entries) (claim_of boot entries other) event) (claim_of boot entries other)) (not-same turn.cpu.0 other differ)
 
-not-open : (U R : Option Units) (calls : List ModuleCall) → both_or_none U R ≡ None → opened None U R calls ≡ None
-not-open None R calls is = refl
-not-open (Some units) None calls is = refl
-not-open (Some units) (Some run) calls is = cc
+not-open : (block : Option Block) (U R : Option Units) (calls : List ModuleCall) → both_or_none U R ≡ None → opened block U R calls ≡ None
+not-open block None R calls is = refl
+not-open block (Some units) None calls is = refl
+not-open block (Some units) (Some run) calls is = cc
 
 -- a claim without a run leaves no claim
-pub claims-closed : (boot : Boot) (entries : List Entry) (turn : Turn) (last : ℕ) (units run : Option Units) → claim_of boot entries turn.cpu.0 ≡ None → both_or_none units run ≡ None → claim_of boot (entries ++ bare_entry turn last (Claim None units run) ∷ []) ≡ claim_of boot entries
-claims-closed boot entries turn last units run free none =
+pub claims-closed : (boot : Boot) (entries : List Entry) (turn : Turn) (last : ℕ) (block : Option Block) (units run : Option Units) → claim_of boot entries turn.cpu.0 ≡ None → both_or_none units run ≡ None → claim_of boot (entries ++ bare_entry turn last (Claim block units run) ∷ []) ≡ claim_of boot entries
+claims-closed boot entries turn last block units run free none =
     fun_ext (λ cpu. elim (nat-cases cpu turn.cpu.0) [
       | inl same ↦
-          ap (claim_of boot (entries ++ bare_entry turn last (Claim None units run) ∷ [])) same ∙ claim-mine boot entries turn last (Claim None units run)
-          ∙ not-open units run (calls_of boot entries) none ∙ sym (ap (claim_of boot entries) same ∙ free)
-      | inr differ ↦ claim-other boot entries turn last (Claim None units run) cpu differ
+          ap (claim_of boot (entries ++ bare_entry turn last (Claim block units run) ∷ [])) same ∙ claim-mine boot entries turn last (Claim block units run)
+          ∙ not-open block units run (calls_of boot entries) none ∙ sym (ap (claim_of boot entries) same ∙ free)
+      | inr differ ↦ claim-other boot entries turn last (Claim block units run) cpu differ
     ])
 
 -- ---- stamps rise
@@ -148,29 +142,29 @@ runs-keep-push boot entries turn last event keep others cpu claim before rest pa
           ∙ sym (others cpu claim page differ was inside))
     ]
 
-pub steady-push : (boot : Boot) (entries entries' : List Entry) (turn : Turn) (last : ℕ) (event : Event) → entries' ≡ entries ++ bare_entry turn last event ∷ [] → last ≡ last_stamp entries → Steady boot entries
+pub steady-push : (boot : Boot) (entries entries' : List Entry) (turn : Turn) (last : ℕ) (event : Event) → entries' ≡ entries ++ bare_entry turn last event ∷ [] → last ≡ last_stamp entries → Steady boot entries → WaitingFalls boot (entries ++ bare_entry turn last event ∷ [])
     → ((other : ℕ) (claim : Claimed) (page : ℕ) → other ≢ turn.cpu.0 → claim_of boot entries other ≡ Some claim
     → in_range (pages_first boot claim.run) (pages_count boot claim.run) page ≡ true
     → page_state boot (calls_of boot (entries ++ bare_entry turn last event ∷ [])) page ≡ page_state boot (calls_of boot entries) page)
     → Steady boot entries'
-steady-push boot entries entries' turn last event is last_is s others =
+steady-push boot entries entries' turn last event is last_is s falls others =
     subst (Steady boot) (sym is)
-    (record { rising = rising-push entries turn last event last_is s.rising; runs_keep = runs-keep-push boot entries turn last event s.runs_keep others })
+    (record { rising = rising-push entries turn last event last_is s.rising; runs_keep = runs-keep-push boot entries turn last event s.runs_keep others; waiting = falls })
 
 -- ---- a step that changes entries and room alone
 
-pub stands-more : (boot : Boot) (entries entries' : Vec Entry Global) (last last' : ℕ) (table : Table) (bits : Option Bits) (claims : List (Option OpenClaim)) (pages kept room room' : ℕ) (turn : Turn) (event : Event)
-    → StandsFor boot entries last table bits claims pages kept room
+pub stands-more : (boot : Boot) (entries entries' : Vec Entry Global) (last last' : ℕ) (table : Table) (bits : Option Bits) (claims : List (Option OpenClaim)) (blocks blocks' : State) (pages kept room room' : ℕ) (turn : Turn) (event : Event)
+    → StandsFor boot entries last table bits claims blocks pages kept room
     → calls_of boot (entries.items ++ bare_entry turn last event ∷ []) ≡ calls_of boot entries.items
     → claim_of boot (entries.items ++ bare_entry turn last event ∷ []) ≡ claim_of boot entries.items
     → entries'.items ≡ entries.items ++ bare_entry turn last event ∷ [] → vec_capacity entries ≤ vec_capacity entries'
-    → last' ≡ max turn.clock last + 1 → turn.clock < 2 ^ 64 → last < 2 ^ 64 → kept < 2 ^ 64 → 0 < room → room' ≡ room - 1
-    → StandsFor boot entries' last' table bits claims pages kept room'
-stands-more boot entries entries' last last' table bits claims pages kept room room' turn event s same-calls same-claims is more last_is low_clock low_last few some room_is =
+    → last' ≡ max turn.clock last + 1 → turn.clock < 2 ^ 64 → last < 2 ^ 64 → kept < 2 ^ 64 → room' < room → BlocksGo boot entries.items (bare_entry turn last event) blocks' claims room'
+    → StandsFor boot entries' last' table bits claims blocks' pages kept room'
+stands-more boot entries entries' last last' table bits claims blocks blocks' pages kept room room' turn event s same-calls same-claims is more last_is low_clock low_last few less go =
     let long : length entries'.items ≡ length entries.items + 1 = ap (λ (es : List Entry). length es) is ∙ length_push entries.items (bare_entry turn last event) in
     let fits = s.entry_room in
     let pieces = s.table_room in
-    let less : room' * (2 * pages + 2) ≤ room * (2 * pages + 2) = fewer room' room (2 * pages + 2) (omega (arith, room_is)) in
+    let pieces_less : room' * (2 * pages + 2) ≤ room * (2 * pages + 2) = fewer room' room (2 * pages + 2) (omega (arith, less)) in
     record {
       booted = s.booted;
       holds =
@@ -185,8 +179,11 @@ stands-more boot entries entries' last last' table bits claims pages kept room r
       spans = s.spans;
       pages_are = s.pages_are;
       reports = s.reports;
-      entry_room = omega (arith, long, fits, more, some, room_is);
-      table_room = omega (arith, pieces, less);
+      entry_room = omega (arith, long, fits, more, less);
+      table_room = omega (arith, pieces, pieces_less);
       stamps = omega (arith, last_is, low_clock, low_last, few);
-      steady = steady-push boot entries.items entries'.items turn last event is s.last_is s.steady (λ other claim page differ has inside. ap (λ cs. page_state boot cs page) same-calls);
+      steady = steady-push boot entries.items entries'.items turn last event is s.last_is s.steady go.falls (λ other claim page differ has inside. ap (λ cs. page_state boot cs page) same-calls);
+      settled = subst (Settled boot) (sym is) go.settled;
+      blocks_are = (let B : List Entry → Type 0 = λ es. BlocksAfter boot es blocks' in subst B (sym is) go.blocks_are);
+      block_room = go.enough;
     }

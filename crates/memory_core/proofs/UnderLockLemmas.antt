@@ -22,7 +22,7 @@ use Rattle.claim_lock.specs.Knows.{Finds, MayGive, IsOf, left_known}
 use Rattle.claim_lock.specs.declared.known.Known.{Known}
 use Rattle.memory_core.specs.contracts.memory.MemoryParted.TheImpl.{ghosts}
 use Rattle.memory_core.specs.Answers.{OthersKeep}
-use Rattle.memory_core.specs.Away.{NoneOf, BringsSince, FoundAgain, MayReport}
+use Rattle.memory_core.specs.Away.{NoneOf, BringsSince, FoundAgain, MayReport, WaitingFalls}
 use Rattle.memory_core.specs.Steps.{Appends, BringsTo, bare_entry, last_stamp}
 use Rattle.memory_core.specs.UnderLock.{fixed_of, part_of, moved_of, unmoved, claim_part, pages_out, room_kept}
 use Rattle.memory_core.specs.Value.{MemoryValue, Handed, handed_to}
@@ -161,8 +161,8 @@ handed-back (Some a) (Some b) pages room =
 -- A processor finds the memory as it left it but for the entries of others, where it knows the memory as it left it and has made
 -- just its entries in it.
 pub found-again : (known : Known) (left found : MemoryValue) → known.fixed ≡ ghosts.fixed left → known.part ≡ ghosts.part left known.number → known.seen ≡ ghosts.moved left → known.own ≡ made_by known.number (ghosts.moved left)
-    → Finds ghosts.fixed ghosts.part ghosts.moved known found → FoundAgain known.number left found
-found-again known left found is_fixed is_part is_seen is_own finds =
+    → Finds ghosts.fixed ghosts.part ghosts.moved known found → WaitingFalls found.boot found.entries → FoundAgain known.number left found
+found-again known left found is_fixed is_part is_seen is_own finds falls =
     let cpu = known.number in
     let boots : Some found.boot ≡ Some left.boot = ap (λ (f : Fixed). f.boot) (finds.as_given ∙ is_fixed) in
     let boot : found.boot ≡ left.boot = cc in
@@ -176,6 +176,7 @@ found-again known left found is_fixed is_part is_seen is_own finds =
       others = others;
       claim = ap (λ b. claim_of b found.entries cpu) boot ∙ ap (λ es. claim_of left.boot es cpu) rest.1 ∙ claim-stays left.boot cpu left.entries rest.0 others;
       handed = handed-back (handed_to found cpu) (handed_to left cpu) (ap (λ (p : Part). p.out) part) (ap (λ (p : Part). p.room) part);
+      waiting = subst (λ b. WaitingFalls b found.entries) boot falls left.entries rest.0 rest.1;
     }
 
 -- the calls brought its span from the states in which it got the pages, whatever others did meanwhile

@@ -1,5 +1,6 @@
-use Rattle.std.specs.Prelude.{ℕ, List, [], Option, None, Some, true, ◌≡◌, ◌≢◌, ◌+◌}
+use Rattle.std.specs.Prelude.{ℕ, List, [], Option, None, Some, true, ◌≡◌, ◌≢◌, ◌+◌, ◌-◌, ◌<◌, ◌≤◌}
 use Rattle.guest_base.specs.Ranges.{in_range}
+use Rattle.guest_base.specs.declared.memory.Block.{Block}
 use Rattle.guest_base.specs.declared.memory.Units.{Units}
 use Rattle.event_core.specs.declared.entry.Turn.{Turn}
 use Rattle.event_core.specs.declared.module_call.ModuleCall.{ModuleCall}
@@ -18,6 +19,7 @@ use Rattle.memory_core.specs.declared.memory.Reported.{Reported}
 use Rattle.memory_core.specs.declared.memory.Reported.TheVariants.{Next, Closed, Stopped}
 use Rattle.memory_core.specs.Value.{MemoryValue, Handed, handed_to}
 use Rattle.memory_core.specs.Steps.{IsInTable, IsOutFor}
+use Rattle.memory_core.specs.Waiting.{waiting_left}
 
 -- What the steps of the memory answer.
 
@@ -34,6 +36,21 @@ pub record UsesOne (old new : MemoryValue) : Type 0 where
   pub out : new.out ≡ old.out
   pub room : new.room + 1 ≡ old.room
 
+-- no room is left for a step, and what is out is as before
+pub record LeavesNoRoom (old new : MemoryValue) : Type 0 where
+  pub out : new.out ≡ old.out
+  pub room : new.room ≡ 0
+
+-- a claim without a run uses the room of one entry; one for a block leaves no room
+abbrev pub UsesFor : Option Block → MemoryValue → MemoryValue → Type 0
+UsesFor None old new = UsesOne old new
+UsesFor (Some block) old new = LeavesNoRoom old new
+
+-- the room that it leaves
+abbrev pub room_after : Option Block → ℕ → ℕ
+room_after None room = room - 1
+room_after (Some block) room = 0
+
 -- nothing is in the way, and a run is out as the first one of a claim; but for an entry and the
 -- run, all room is the claim's
 pub record Opens (old new : MemoryValue) (cpu : ℕ) (units : Option Units)
@@ -45,13 +62,17 @@ pub record Opens (old new : MemoryValue) (cpu : ℕ) (units : Option Units)
   pub kept : out.room + run.count + 1 ≡ old.room
   pub left : new.room ≡ 0
 
--- a begun acceptance of guarded units
-abbrev pub BegunBy : MemoryValue → MemoryValue → Turn → Option Units → Begin → Type 0
-BegunBy old new turn units Clear =
+-- a begun acceptance of guarded units, for a block or for none
+abbrev pub BegunFor : MemoryValue → MemoryValue → Turn → Option Block → Option Units → Begin
+    → Type 0
+BegunFor old new turn block units Clear =
     (in_the_way old.boot old.entries units ≡ None)
-    × (run_of_claim old.boot old.entries units ≡ None) × UsesOne old new
-BegunBy old new turn units (IsClaimed span) = Opens old new turn.cpu.0 units span
-BegunBy old new turn units (Blocked met) = IsMet old units met
+    × (run_of_claim old.boot old.entries units ≡ None) × UsesFor block old new
+BegunFor old new turn block units (IsClaimed span) = Opens old new turn.cpu.0 units span
+BegunFor old new turn block units (Blocked met) = IsMet old units met
+
+abbrev pub BegunBy : MemoryValue → MemoryValue → Turn → Option Units → Begin → Type 0
+BegunBy old new turn units begin = BegunFor old new turn None units begin
 
 abbrev pub IsBlocked : Begin → Type 0
 IsBlocked Clear = ⊥
@@ -82,6 +103,7 @@ ReportedBy old new turn claim calls (Next span) = GoesOn old new turn.cpu.0 clai
 ReportedBy old new turn claim calls (Closed count) =
     (stop_of calls ≡ None) × (next_run old.boot claim (stop_of calls) ≡ None)
     × (count ≡ cleared_by old.boot old.entries claim calls) × Closes old new turn.cpu.0
+    × (claim.block ≢ None → waiting_left old.boot new.entries < waiting_left old.boot old.entries)
 ReportedBy old new turn claim calls Stopped = (stop_of calls ≢ None) × Closes old new turn.cpu.0
 
 -- the answer of a report that closes the claim
@@ -89,8 +111,8 @@ abbrev pub answer_at : RunEnd → ℕ → Reported
 answer_at end.Whole cleared = Closed cleared
 answer_at (end.Stopped page) cleared = Stopped
 
--- a step of one processor leaves what is out with the others: the claims, and the states of their
--- pages
+-- A step of one processor leaves what is out with the others: the claims, and the states of their
+-- pages. It makes no more blocks wait.
 pub record OthersKeep (old new : MemoryValue) (cpu : ℕ) : Type 0 where
   pub handed : (other : ℕ) → other ≢ cpu → handed_to new other ≡ handed_to old other
   pub states : (other : ℕ) (claim : Claimed) (page : ℕ) → other ≢ cpu
@@ -98,6 +120,7 @@ pub record OthersKeep (old new : MemoryValue) (cpu : ℕ) : Type 0 where
       → in_range (pages_first old.boot claim.run) (pages_count old.boot claim.run) page ≡ true
       → page_state old.boot (calls_of old.boot new.entries) page
       ≡ page_state old.boot (calls_of old.boot old.entries) page
+  pub waiting : waiting_left old.boot new.entries ≤ waiting_left old.boot old.entries
 
 -- no processor has an open claim
 abbrev pub NoneOpen : MemoryValue → Type 0

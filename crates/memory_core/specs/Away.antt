@@ -13,6 +13,7 @@ use Rattle.page_module.specs.Spans.{Taken}
 use Rattle.accept_sizes.specs.declared.accept.RunEnd.{RunEnd}
 use Rattle.memory_core.specs.Steps.{BringsTo, last_stamp}
 use Rattle.memory_core.specs.Value.{MemoryValue, handed_to}
+use Rattle.memory_core.specs.Waiting.{waiting_left}
 
 -- entries that other processors made
 abbrev pub NoneOf : ℕ → List Entry → Type 0
@@ -26,11 +27,18 @@ RunsKeep boot entries =
     → in_range (pages_first boot claim.run) (pages_count boot claim.run) page ≡ true
     → page_state boot (calls_of boot before) page ≡ page_state boot (calls_of boot entries) page
 
--- What a memory's entries keep: they rise, and those of other processors leave the pages of an open
--- run.
+-- no step makes more blocks wait
+abbrev pub WaitingFalls : Boot → List Entry → Type 0
+WaitingFalls boot entries =
+    (before rest : List Entry) → entries ≡ before ++ rest
+    → waiting_left boot entries ≤ waiting_left boot before
+
+-- What a memory's entries keep: they rise, those of other processors leave the pages of an open
+-- run, and none makes more blocks wait.
 pub record Steady (boot : Boot) (entries : List Entry) : Type 0 where
   pub rising : Rising entries
   pub runs_keep : RunsKeep boot entries
+  pub waiting : WaitingFalls boot entries
 
 -- calls brought the span of an open run from the states in which the memory handed it out, and no
 -- entry since is the processor's
@@ -53,7 +61,7 @@ pub record MayReport (memory : MemoryValue) (turn : Turn) (span : Taken) (calls 
   pub clock : turn.clock ≤ max (2 ^ 64) (last_stamp memory.entries)
 
 -- a processor finds the memory as it left it, but for the entries of others: its claim is the same,
--- and so is what is out for it, with the room for its end
+-- and so is what is out for it, with the room for its end. No more blocks wait.
 pub record FoundAgain (cpu : ℕ) (left found : MemoryValue) : Type 0 where
   pub boot : found.boot ≡ left.boot
   pub rest : List Entry
@@ -61,3 +69,4 @@ pub record FoundAgain (cpu : ℕ) (left found : MemoryValue) : Type 0 where
   pub others : NoneOf cpu rest
   pub claim : claim_of found.boot found.entries cpu ≡ claim_of left.boot left.entries cpu
   pub handed : handed_to found cpu ≡ handed_to left cpu
+  pub waiting : waiting_left left.boot found.entries ≤ waiting_left left.boot left.entries

@@ -7,3 +7,8 @@ pub mod StandsFor
 pub mod Answers
 pub mod UnderLock
 pub mod Away
+pub mod Owners
+pub mod Waiting
+pub mod KeptBlocks
+pub mod Settled
+pub mod Looks

@@ -16,9 +16,12 @@ use Rattle.page_module.specs.Tables.{Table, is_out}
 use Rattle.page_module.specs.declared.ticket.Ticket.{Ticket}
 use Rattle.event_core.specs.Table.{Bits}
 use Rattle.accepting_ranges.specs.Claims.{kept_of}
+use Rattle.block_allocator.specs.State.{State}
 use Rattle.memory_core.specs.Away.{Steady}
 use Rattle.memory_core.specs.Bitmaps.{bits_in, AreRunsFrom, SameBits}
 use Rattle.memory_core.specs.Booted.{IsBooted, MarksArePending, UnitsAreRam}
+use Rattle.memory_core.specs.KeptBlocks.{BlocksAfter, HasBlockRoom}
+use Rattle.memory_core.specs.Settled.{Settled}
 use Rattle.memory_core.specs.Steps.{last_stamp, pages_of, IsInTable}
 use Rattle.memory_core.specs.Value.{Handed}
 use Rattle.memory_core.specs.declared.claims.OpenClaim.{OpenClaim}
@@ -35,6 +38,7 @@ pieces_for pages units = units * (2 * pages + 2)
 -- as many units as they have. The run's pages are out.
 pub record OpenStands (boot : Boot) (bit : ℕ → Bool) (tickets : List Ticket) (kept : OpenClaim)
     (claim : Claimed) : Type 0 where
+  pub block : kept.block ≡ claim.block
   pub units : kept.units ≡ claim.units
   pub run : kept.run ≡ claim.run
   pub cleared : kept.cleared ≡ claim.cleared
@@ -93,9 +97,11 @@ reports_of (Some claim) = claim.room + 1
 -- What a memory keeps stands for its entries: its page table, bitmap and claims are those of the
 -- definitions, and there is room for the reports of its open claims and for the next step. Stamps
 -- stay below 2^65 until all claims are closed. The entries rise, and entries of other processors
--- leave the pages of an open run.
+-- leave the pages of an open run. The blocks are those after the entries, with room for those of
+-- open claims.
 pub record StandsFor (boot : Boot) (entries : Vec Entry Global) (last : ℕ) (table : Table)
-    (bits : Option Bits) (claims : List (Option OpenClaim)) (pages kept room : ℕ) : Type 0 where
+    (bits : Option Bits) (claims : List (Option OpenClaim)) (blocks : State) (pages kept room : ℕ)
+    : Type 0 where
   pub booted : IsBooted boot
   pub holds : HoldsFor boot (calls_of boot entries.items) (claim_of boot entries.items)
       table.runs table.out (bits_in bits) (kept_of claims)
@@ -110,6 +116,9 @@ pub record StandsFor (boot : Boot) (entries : Vec Entry Global) (last : ℕ) (ta
   pub table_room : pieces_for pages room ≤ table.room
   pub stamps : max (2 ^ 64) last + kept < 2 ^ 65
   pub steady : Steady boot entries.items
+  pub settled : Settled boot entries.items
+  pub blocks_are : BlocksAfter boot entries.items blocks
+  pub block_room : HasBlockRoom blocks claims room
 
 -- the spare list of runs is empty, and has room for those of the next claim
 pub record IsSpare (runs : Vec Units Global) (room : ℕ) : Type 0 where

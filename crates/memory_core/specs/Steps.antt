@@ -3,6 +3,7 @@ use Rattle.std.specs.Option.{option_map_or}
 use Rattle.guest_base.specs.declared.limits.TheConstants.{ADDRESS_END}
 use Rattle.guest_base.specs.Ranges.{in_range}
 use Rattle.guest_base.specs.Search.{count_such}
+use Rattle.guest_base.specs.declared.memory.Block.{Block}
 use Rattle.guest_base.specs.declared.memory.Pages.{Pages}
 use Rattle.guest_base.specs.declared.memory.Units.{Units}
 use Rattle.event_core.specs.declared.boot.Boot.{Boot}
@@ -13,6 +14,7 @@ use Rattle.event_core.specs.declared.event.Event.{Event}
 use Rattle.event_core.specs.declared.event.Event.TheVariants.{Claim}
 use Rattle.event_core.specs.declared.module_call.ModuleCall.{ModuleCall}
 use Rattle.event_core.specs.Acceptance.{stop_of}
+use Rattle.event_core.specs.Blocks.{block_units, lowest_waiting}
 use Rattle.event_core.specs.Calls.{calls_of}
 use Rattle.event_core.specs.Claims.{Claimed, claim_of}
 use Rattle.event_core.specs.MemoryRows.{page_state, pages_first, pages_count, run_of_claim}
@@ -58,6 +60,12 @@ pub record MayBegin (memory : MemoryValue) (turn : Turn) (units : ℕ) : Type 0 
 -- the event of a claim of units for no block
 abbrev pub claim_of_units : MemoryValue → Option Units → Event
 claim_of_units memory units = Claim None units (run_of_claim memory.boot memory.entries units)
+
+-- a claim for a block is for the lowest one that waits, and for its guarded units
+pub record IsForLowest (memory : MemoryValue) (units : Option Units) (block : Block)
+    : Type 0 where
+  pub lowest : lowest_waiting memory.boot memory.entries ≡ Some block
+  pub guarded : units ≡ block_units memory.boot block
 
 -- a step appends one bare entry, whose stamp becomes the processor's clock
 pub record Appends (old new : MemoryValue) (turn turned : Turn) (event : Event) : Type 0 where

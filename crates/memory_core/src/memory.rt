@@ -1,23 +1,22 @@
 //! What the memory lock holds.
 ghost use Rattle.std.specs.Prelude.{◌≡◌, ◌≢◌, ℕ, List, [], ◌+◌, ◌-◌, ◌^◌, ◌<◌, ◌≤◌, None, Some, Option, IfSome, IfOk, OnOk, OnErr, max};
 ghost use Rattle.std.specs.Option.{ForSome};
-ghost use Rattle.event_core.specs.declared.boot.Descriptor.{Descriptor};
-ghost use Rattle.event_core.specs.declared.event.Event.TheVariants.{Asked};
-ghost use Rattle.event_core.specs.Map.{MapRules};
-ghost use Rattle.event_core.specs.Boot.{BootRight};
-ghost use Rattle.event_core.specs.Given.{FitsGiven};
-ghost use Rattle.event_core.specs.Table.{Bits};
+ghost use Rattle.event_core.specs.declared.event.Event.TheVariants.{Asked, Claim};
 ghost use Rattle.event_core.specs.Runs.{state_in as first_state_of};
 ghost use Rattle.event_core.specs.Calls.{calls_of, SoundCalls};
 ghost use Rattle.event_core.specs.Claims.{Claimed, claim_of};
 ghost use Rattle.event_core.specs.Locally.{Rising};
-ghost use Rattle.event_core.specs.MemoryRows.{page_state, report_event, some_unaccepted};
+ghost use Rattle.event_core.specs.MemoryRows.{page_state, report_event, run_of_claim, some_unaccepted};
 ghost use Rattle.event_core.specs.Units.{bit_after, first_run, guarded_units, unit_pages};
+ghost use Rattle.event_laws.specs.Coming.{BootMade};
 ghost use Rattle.page_module.specs.States.{state_in};
-ghost use Rattle.memory_core.specs.Away.{MayReport};
+ghost use Rattle.accept_sizes.specs.Ends.{stopped_at};
+ghost use Rattle.block_allocator.specs.State.{IsBlock, IsLowestWaiting, MayPut};
+ghost use Rattle.memory_core.specs.Away.{MayReport, WaitingFalls};
 ghost use Rattle.memory_core.specs.Bitmaps.{BitsAfter};
+ghost use Rattle.memory_core.specs.KeptBlocks.{Begins, BlocksAfter, PutBack};
 ghost use Rattle.memory_core.specs.Value.{handed_to};
-ghost use Rattle.memory_core.specs.Steps.{last_stamp, unaccepted_count, claim_of_units, Appends, BringsTo, IsByteRange, MayBegin};
+ghost use Rattle.memory_core.specs.Steps.{last_stamp, unaccepted_count, claim_of_units, Appends, BringsTo, IsByteRange, IsForLowest, MayBegin};
 
 use crate::claims::{OpenClaim, next_run_of, with_next};
 use crate::entries::append;
@@ -28,9 +27,10 @@ use crate::units::{
 };
 use accept_sizes::RunEnd;
 use accepting_ranges::Accepting;
+use block_allocator::Blocks;
 use claim_lock::Parted;
 use event_core::{Boot, Calls, Entries, Entry, Event, NoRoom, Turn};
-use guest_base::{CpuNo, Items, Unit, Units};
+use guest_base::{Block, CpuNo, Items, Unit, Units};
 use page_module::{PageTable, Span};
 use std::alloc::{AllocError, Global};
 use std::marker::Model;
@@ -49,6 +49,23 @@ pub enum Begin {
     Blocked(Units),
 }
 
+/// What `alloc_look` answers.
+#[derive(Debug, Drop)]
+pub enum Look {
+    /// The processor owns this block now.
+    Got(Block),
+    /// The lowest waiting block has no unaccepted unit, and is free now: the processor looks again.
+    Cleared,
+    /// The lowest waiting block is claimed, and the pages of its first run of unaccepted units are out in this span.
+    Claimed(Span),
+    /// These units of an open claim meet the guarded ones of the lowest waiting block; nothing has changed.
+    Blocked(Units),
+    /// No free block suffices and none waits, but this processor accepts one; nothing has changed.
+    InFlight(CpuNo),
+    /// No free block suffices, none waits, and none is being accepted.
+    NoBlock,
+}
+
 /// What `report` answers.
 #[derive(Debug, Drop)]
 pub enum Reported {
@@ -60,30 +77,32 @@ pub enum Reported {
     Stopped,
 }
 
-/// What the lock of the memory holds: the states of pages, which units are unaccepted, the claims that are open, and the memory's
-/// entries.
+/// What the lock of the memory holds: the states of pages, which units are unaccepted, the claims that are open, the free and the
+/// waiting blocks, and the memory's entries.
 ///
 /// Contracts see how the guest was booted, the entries, what is out with each processor for its open claim, and the room for the
 /// next step, which is one more than the units that it may accept.
 #[derive(Drop)]
 pub struct Memory {
-    alloc: Global,
-    boot: Snapshot<Boot>,
-    table: PageTable,
+    pub(crate) alloc: Global,
+    pub(crate) boot: Snapshot<Boot>,
+    pub(crate) table: PageTable,
     /// None where the map has no unaccepted descriptor.
-    bits: Option<Bitmap>,
+    pub(crate) bits: Option<Bitmap>,
     /// The open claims.
-    accepting: Accepting<OpenClaim>,
+    pub(crate) accepting: Accepting<OpenClaim>,
+    /// The free and the waiting blocks.
+    pub(crate) blocks: Blocks,
     /// The list for the runs of the next claim; empty.
-    spare: Vec<Units>,
-    entries: Vec<Entry>,
+    pub(crate) spare: Vec<Units>,
+    pub(crate) entries: Vec<Entry>,
     /// The stamp of the last entry.
-    last: u128,
+    pub(crate) last: u128,
     /// The pages of a unit.
-    unit_pages: u64,
+    pub(crate) unit_pages: u64,
     /// The places in `entries` that are kept for the reports of open claims.
-    kept: u64,
-    room: u64,
+    pub(crate) kept: u64,
+    pub(crate) room: u64,
 }
 
 impl Model for Memory {
@@ -102,7 +121,7 @@ impl Model for Memory {
     } };
 
     ghost invariant = { λ m.
-        StandsFor m.boot.value m.entries m.last m.table m.bits m.accepting
+        StandsFor m.boot.value m.entries m.last m.table m.bits m.accepting m.blocks
         m.unit_pages m.kept m.room
         × IsSpare m.spare m.room };
 }
@@ -118,26 +137,26 @@ impl Parted for Memory {
 }
 
 impl Memory {
-    ghost use Rattle.memory_core.specs.Answers.{BegunBy, ReportedBy, IsBlocked, GivesTable, OthersKeep, UsesOne};
+    ghost use Rattle.memory_core.specs.Answers.{BegunBy, BegunFor, ReportedBy, IsBlocked, GivesTable, OthersKeep, UsesOne};
 
-    /// The memory of a boot, with no entry and no room. The table has the states of the pages after boot's calls, and no page is
-    /// out; the bitmap has the bits after boot's calls.
+    /// The memory of a boot that was made of a map, with no entry and no room. The table has the states of the pages after boot's
+    /// calls, and no page is out; the bitmap has the bits after boot's calls. The blocks of the cut that wait at boot wait, and the
+    /// pages of the others are free.
     pub fn new(
         alloc: Global,
         boot: &Boot,
         table: PageTable,
         bits: Option<Bitmap>,
+        blocks: Blocks,
     ) -> Result<Memory, AllocError>
-        requires right { (descriptors : List Descriptor) × (table : Option Bits) × (slots : ℕ)
-            × MapRules descriptors boot.now.hosts × FitsGiven descriptors table
-            × BootRight descriptors boot.now.hosts table slots
-            boot.now.areas boot.now.cpus boot.now }
+        requires made { BootMade boot.now }
         requires sound { SoundCalls (first_state_of boot.now.ram) boot.now.calls }
         requires cpus { boot.now.cpus ≤ 64 }
         requires states { (page : ℕ) → state_in table.runs page
             ≡ page_state boot.now boot.now.calls page }
         requires none_out { table.out ≡ [] }
         requires bits { BitsAfter boot.now boot.now.calls bits }
+        requires blocks { BlocksAfter boot.now [] blocks }
         ensures boot { IfOk result (λ m. m.boot ≡ boot.now) }
         ensures entries { IfOk result (λ m. m.entries ≡ []) }
         ensures out { IfOk result (λ m. (cpu : ℕ) → handed_to m cpu ≡ None) }
@@ -148,6 +167,7 @@ impl Memory {
             table,
             bits,
             accepting: Accepting::new(),
+            blocks,
             spare: Vec::new(alloc),
             entries: Vec::new(alloc),
             last: 0,
@@ -189,6 +209,7 @@ impl Memory {
             self.spare.reserve(room as usize)?;
             let pieces = room.checked_mul(2 * self.unit_pages + 2).ok_or(AllocError)?;
             self.table.reserve(alloc, pieces)?;
+            self.blocks.reserve(alloc, BLOCK_ROOM)?;
             self.room = room;
         }
         Ok(())
@@ -235,9 +256,10 @@ impl Memory {
         self.last
     }
 
-    /// Tells contracts that the entries rise, and does nothing.
+    /// Tells contracts that the entries rise, and that none made more blocks wait. It does nothing.
     pub fn show_rising(&self)
-        ensures { Rising self.now.entries }
+        ensures rising { Rising self.now.entries }
+        ensures waiting { WaitingFalls self.now.boot self.now.entries }
     {
         let _ = &self.entries;
     }
@@ -260,21 +282,40 @@ impl Memory {
         ensures others { OthersKeep self.old self.new turn.old.cpu.0 }
     {
         let units = guarded_units_of(&self.bits, start, len);
+        self.open_claim(turn, None, units)
+    }
+
+    /// Claims units for the turn's processor as `begin_accept` does, for no block or for the lowest waiting one, whose guarded
+    /// units these are. The block waits no longer; with `Clear` it is free, and no room is left.
+    pub(crate) fn open_claim(
+        &mut self,
+        turn: &mut Turn,
+        block: Option<Block>,
+        units: Option<Units>,
+    ) -> Begin
+        requires end { ForSome units (λ u. u.first + u.count < 2 ^ 64) }
+        requires lowest { ForSome block (IsForLowest self.old units) }
+        requires step { MayBegin self.old turn.old
+            (unaccepted_count self.old.boot self.old.entries units) }
+        ensures begun { BegunFor self.old self.new turn.old block units result }
+        ensures blocked { IsBlocked result → (self.new ≡ self.old) × (turn.new ≡ turn.old) }
+        ensures appends { ¬ IsBlocked result → Appends self.old self.new turn.old turn.new
+            (Claim block units (run_of_claim self.old.boot self.old.entries units)) }
+        ensures others { OthersKeep self.old self.new turn.old.cpu.0 }
+    {
         if let Some(met) = overlap_of(&self.accepting, units) {
             return Begin::Blocked(met);
         }
         let run = first_run_of(&self.bits, units);
-        let event = Event::Claim {
-            block: None,
-            units,
-            run,
-        };
+        let event = Event::Claim { block, units, run };
         append(&mut self.entries, &mut self.last, turn, event);
+        start_block(&mut self.blocks, block, run);
         match both_of(units, run) {
             Some((units, run)) => {
                 let span = self.table.take(run_pages(&self.bits, run));
                 runs_behind(&self.bits, units, run, &mut self.spare);
                 let claim = OpenClaim {
+                    block,
                     units,
                     run,
                     later: mem::replace(&mut self.spare, Vec::new(self.alloc)),
@@ -289,7 +330,7 @@ impl Memory {
                 Begin::Claimed(span)
             }
             None => {
-                self.room -= 1;
+                self.room = room_left(block, self.room);
                 Begin::Clear
             }
         }
@@ -337,6 +378,7 @@ impl Memory {
             }
             None => {
                 self.kept -= claim.room + 1;
+                put_back(&mut self.blocks, claim.block, end);
                 closed_by(end, cleared)
             }
         }
@@ -376,6 +418,7 @@ impl Memory {
             table,
             bits: _,
             accepting: _,
+            blocks: _,
             spare: _,
             entries,
             last: _,
@@ -387,7 +430,54 @@ impl Memory {
     }
 }
 
-ghost use Rattle.memory_core.specs.Answers.{answer_at};
+ghost use Rattle.memory_core.specs.Answers.{answer_at, room_after};
+
+/// The room for blocks that is taken with that for a step: for the parts of a block that is split, and for the blocks of 64 open
+/// claims.
+const BLOCK_ROOM: u64 = 74;
+
+/// Takes a claim's block, if it has one, out of the waiting ones, of which it is the lowest. Where the claim has no run the block
+/// is free.
+fn start_block(blocks: &mut Blocks, block: Option<Block>, run: Option<Units>)
+    requires lowest { ForSome block (IsLowestWaiting blocks.old) }
+    requires block { ForSome block (IsBlock 10) }
+    requires room { 1 ≤ blocks.old.room }
+    ensures { Begins blocks.old blocks.new block run }
+{
+    if let Some(block) = block {
+        blocks.take_unaccepted();
+        if run.is_none() {
+            blocks.put_accepted(block);
+        }
+    }
+}
+
+/// Puts the block of a closed claim, if it has one, among the free ones, or where its acceptance stopped among the waiting ones
+/// again.
+fn put_back(blocks: &mut Blocks, block: Option<Block>, end: RunEnd)
+    requires may { ForSome block (MayPut blocks.old) }
+    requires order { ForSome block (λ b. b.order ≡ 10) }
+    requires room { ForSome block (λ b. 1 ≤ blocks.old.room) }
+    ensures { PutBack blocks.old blocks.new block (stopped_at end) }
+{
+    if let Some(block) = block {
+        match end {
+            RunEnd::Whole => blocks.put_accepted(block),
+            RunEnd::Stopped(_) => blocks.put_unaccepted(block),
+        }
+    }
+}
+
+/// The room that a claim without a run leaves.
+fn room_left(block: Option<Block>, room: u64) -> u64
+    requires { 1 ≤ room }
+    ensures { result ≡ room_after block room }
+{
+    match block {
+        None => room - 1,
+        Some(_) => 0,
+    }
+}
 
 /// The answer of a report that closes its claim.
 fn closed_by(end: RunEnd, cleared: u64) -> Reported

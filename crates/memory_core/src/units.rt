@@ -1,15 +1,17 @@
 //! Units of the kept bitmap.
-ghost use Rattle.std.specs.Prelude.{◌≡◌, ℕ, [], ◌+◌, ◌-◌, ◌^◌, ◌<◌, ◌≤◌, None, Some, Option, IfSome, vec_capacity};
+ghost use Rattle.std.specs.Prelude.{◌≡◌, ℕ, [], ◌+◌, ◌-◌, ◌*◌, ◌^◌, ◌<◌, ◌≤◌, None, Some, Option, IfSome, vec_capacity};
 ghost use Rattle.std.specs.Option.{ForSome, option_and_then, option_map_or};
 ghost use Rattle.guest_base.specs.Search.{count_such};
+ghost use Rattle.guest_base.specs.declared.memory.Block.{Block as BlockValue};
 ghost use Rattle.guest_base.specs.declared.memory.Units.{Units};
 ghost use Rattle.event_core.specs.Units.{first_run, units_end};
+ghost use Rattle.block_allocator.specs.State.{IsBlock};
 ghost use Rattle.memory_core.specs.Bitmaps.{bits_in, guarded_by, both_or_none, any_in, AreRunsFrom};
 ghost use Rattle.memory_core.specs.OpenClaims.{MeetsNoOther, IsFirstMet};
 
 use crate::claims::OpenClaim;
 use accepting_ranges::Accepting;
-use guest_base::{Unit, Units};
+use guest_base::{Block, Unit, Units};
 use unaccepted_bitmap::Bitmap;
 
 /// The guarded units of a range of bytes.
@@ -21,6 +23,19 @@ pub(crate) fn guarded_units_of(bits: &Option<Bitmap>, start: u64, len: u64) -> O
 {
     match bits {
         Some(bits) => bits.claim_units(start, len),
+        None => None,
+    }
+}
+
+/// The guarded units of a block.
+pub(crate) fn block_units_of(bits: &Option<Bitmap>, block: Option<Block>) -> Option<Units>
+    requires { ForSome block (IsBlock 10) }
+    ensures units { result ≡ option_and_then
+        (λ (b : BlockValue). guarded_by bits.now (4096 * b.first) (4096 * 2 ^ b.order)) block }
+    ensures end { ForSome result (λ u. u.first + u.count < 2 ^ 64) }
+{
+    match block {
+        Some(block) => guarded_units_of(bits, 4096 * block.first, 4096 << block.order),
         None => None,
     }
 }
@@ -58,7 +73,7 @@ pub(crate) fn both_of(units: Option<Units>, run: Option<Units>) -> Option<(Units
 }
 
 /// Whether a range of memory has an unaccepted guarded unit.
-pub(crate) fn has_unaccepted(bits: &Option<Bitmap>, start: u64, len: u64) -> bool
+pub fn has_unaccepted(bits: &Option<Bitmap>, start: u64, len: u64) -> bool
     requires some { 1 ≤ len }
     requires end { start + len ≤ 2 ^ 40 }
     ensures { result ≡ any_in (bits_in bits.now) (guarded_by bits.now start len) }

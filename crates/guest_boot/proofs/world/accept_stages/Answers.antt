@@ -3,6 +3,7 @@ use Rattle.std.proofs.lemmas.Result.{err_from_is_err_and}
 use Rattle.event_core.specs.Boot.{InTurn, StagePart}
 use Rattle.guest_boot.specs.Booting.{stages_by}
 use Rattle.guest_boot.proofs.InTurnLemmas.{worked-left}
+use Rattle.guest_boot.proofs.PutLemmas.{stages-put}
 use Rattle.guest_boot.proofs.StageLemmas.{early-ends, blocks-behind}
 use Rattle.guest_boot.proofs.world.accept_stages.Goals as goal
 
@@ -18,3 +19,6 @@ returns-clause-done g c = record {
   made = blocks-behind c.accept_blocks.result c.args.boot.now (g.P.Port.made c.args.port.now) (g.P.Port.made c.accept_early.new.port) (g.P.Port.made c.accept_blocks.new.port) c.args.pieces.now c.args.blocks.now c.requires.blocks c.in_ok-accept_early.ensures.done.made c.accept_blocks.ensures.done.made;
   stands = c.accept_blocks.ensures.done.stands;
 }
+
+pub returns-clause-put : goal.returns-clause-put
+returns-clause-put g c = stages-put c.accept_blocks.result c.args.boot.now (g.P.Port.made c.args.port.now) (g.P.Port.made c.accept_early.new.port) (g.P.Port.made c.accept_blocks.new.port) c.args.pieces.now c.args.blocks.now c.accept_blocks.new.store c.requires.blocks c.in_ok-accept_early.ensures.done.made c.accept_blocks.ensures.put

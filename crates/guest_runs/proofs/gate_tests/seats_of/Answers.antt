@@ -17,7 +17,7 @@ pub lock_memory-requires-clause-stand : goal.lock_memory-requires-clause-stand
 lock_memory-requires-clause-stand c κs =
     let scripts = c.in_ok-apart.field-0 in
     let world = c.in_ok-boot.field-0-0 in
-    let begins = c.in_ok-boot.ensures scripts c.in_ok-apart.ensures.count c.in_ok-apart.ensures.short in
+    let begins = c.in_ok-boot.ensures scripts c.in_ok-apart.ensures.count c.in_ok-apart.ensures.runnable in
     let all = c.in_ok-all.all.items in
     let e = c.in_ok-all.ensures in
     let count : length all ≡ length scripts = search rules in

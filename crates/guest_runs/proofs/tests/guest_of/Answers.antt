@@ -1,9 +1,8 @@
-use Rattle.std.proofs.Common.{◌≡◌, ◌<◌, None, List, [], ◌∷◌, ℕ, sym, subst, arith, length, length-set}
+use Rattle.std.proofs.Common.{◌≡◌, ◌<◌, None, List, [], ◌∷◌, sym, ◌∙◌, arith, length, length-set}
 use Rattle.std.specs.Prelude.{All, slice_set}
 use Rattle.std.proofs.lemmas.List.Elements.{All-tail}
 use Rattle.event_core.specs.declared.module_call.ModuleCall.{ModuleCall}
 use Rattle.guest_runs.specs.Asking.{OthersUnmade, first_made}
-use Rattle.guest_runs.specs.Beginning.{BootFor}
 use Rattle.page_module.specs.MemPort.{calls_made}
 use Rattle.guest_runs.proofs.tests.guest_of.Goals as goal
 
@@ -17,7 +16,7 @@ others-unmade made [] port unmade = unmade
 others-unmade made (p ∷ ports) port unmade = All-tail (λ p. made p ≡ []) p ports unmade
 
 pub returns-in-Ok : goal.returns-in-Ok
-returns-in-Ok c scripts count short =
+returns-in-Ok c scripts count runnable =
     let ports = c.in_ok-ports.ports.items in
     let port = c.boot.new.port in
     let e = c.in-Ok.ensures in
@@ -26,13 +25,13 @@ returns-in-Ok c scripts count short =
     let ports_count = c.in_ok-ports.ensures.count in
     let some = c.requires.one in
     let few = c.requires.few in
-    let B : ℕ → Type 0 = λ n. BootFor n c.in-Ok.world.boot in
     record {
       stands = e.stands;
-      right = subst B (sym count) (map.descriptors, map.hosts, None, 0, 1, c.in_ok-map.ensures.rules, tt, e.right);
+      boot_made = record { descriptors = map.descriptors; hosts = map.hosts; table = None; slots = 0; areas = 1; cpus = c.args.cpus; rules = c.in_ok-map.ensures.rules; fits = tt; right = e.right };
+      cpus = e.right.uncalled.same_cpus ∙ sym count;
       some = omega (arith, count, some);
       few = omega (arith, count, few);
-      short = short;
+      runnable = runnable;
       enough = omega (arith, count, long, ports_count);
       first = first-made calls_made ports port c.in-Ok.world.boot.calls (omega (arith, ports_count, some)) e.made;
       others = others-unmade calls_made ports port c.in_ok-ports.ensures.unmade;

@@ -5,22 +5,22 @@ pub step_memory-stepped-requires-clause-stands : goal.step_memory-stepped-requir
 step_memory-stepped-requires-clause-stands g c =
     worked-found g.T.Processor.seen g.T.Processor.stands g.T.Processor.never_fails
     (g.met.T.Processor g.world.𝓛 g.world.𝓜 g.world.𝓡 ((λ s x. x), (λ x. x), (λ x. x), λ x. x)).left_standing
-    c.args.lock.now c.args.pass c.args.processor.now c.work.new.self c.take-held.result.state c.state.result.now c.requires.seated c.work.ensures.works c.work.ensures.stands c.take-held.ensures.state c.state.ensures.value
+    c.args.lock.now c.args.pass c.args.processor.now c.work.new.self c.take-held.result.state c.state-memory.result.now c.requires.seated c.work.ensures.works c.work.ensures.stands c.take-held.ensures.state c.state-memory.ensures.value c.show_rising.ensures.waiting
 
 pub give-pass-requires-clause-state : goal.give-pass-requires-clause-state
 give-pass-requires-clause-state g c =
     stepped-may-give g.T.Processor.seen g.T.Processor.stands g.T.Processor.never_fails
     (g.met.T.Processor g.world.𝓛 g.world.𝓜 g.world.𝓡 ((λ s x. x), (λ x. x), (λ x. x), λ x. x)).left_standing
-    c.args.lock.now c.args.pass c.args.processor.now c.work.new.self c.step_memory-stepped.new.self c.take-held.result.grip c.take-held.result.state c.state.result.now c.step_memory-stepped.new.memory
-    c.step_memory-stepped.result c.requires.seated c.work.ensures.works c.take-held.ensures.grip c.state.ensures.value
+    c.args.lock.now c.args.pass c.args.processor.now c.work.new.self c.step_memory-stepped.new.self c.take-held.result.grip c.take-held.result.state c.state-memory.result.now c.step_memory-stepped.new.memory
+    c.step_memory-stepped.result c.requires.seated c.work.ensures.works c.take-held.ensures.grip c.state-memory.ensures.value
     (c.step_memory-stepped.ensures.event, c.step_memory-stepped.ensures.blocked, c.step_memory-stepped.ensures.refused)
 
 pub returns-in-Ok-Event : goal.returns-in-Ok-Event
 returns-in-Ok-Event g c =
     stepped-seated g.T.Processor.seen g.T.Processor.stands g.T.Processor.never_fails
     (g.met.T.Processor g.world.𝓛 g.world.𝓜 g.world.𝓡 ((λ s x. x), (λ x. x), (λ x. x), λ x. x)).left_standing
-    c.args.lock.now c.args.pass c.give-pass.result c.args.processor.now c.work.new.self c.step_memory-stepped.new.self c.take-held.result.grip c.take-held.result.state c.state.result.now c.step_memory-stepped.new.memory
-    c.step_memory-stepped.result c.requires.seated c.work.ensures.works c.work.ensures.stands c.work.ensures.never_fails_kept c.take-held.ensures.grip c.take-held.ensures.state c.state.ensures.value
+    c.args.lock.now c.args.pass c.give-pass.result c.args.processor.now c.work.new.self c.step_memory-stepped.new.self c.take-held.result.grip c.take-held.result.state c.state-memory.result.now c.step_memory-stepped.new.memory
+    c.step_memory-stepped.result c.requires.seated c.work.ensures.works c.work.ensures.stands c.work.ensures.never_fails_kept c.take-held.ensures.grip c.take-held.ensures.state c.state-memory.ensures.value
     (c.step_memory-stepped.ensures.event, c.step_memory-stepped.ensures.blocked, c.step_memory-stepped.ensures.refused) c.step_memory-stepped.ensures.never_fails_kept c.step_memory-stepped.ensures.stands
     c.give-pass.ensures.lock c.give-pass.ensures.known
 
@@ -28,8 +28,8 @@ pub returns-in-Ok-Blocked : goal.returns-in-Ok-Blocked
 returns-in-Ok-Blocked g c =
     stepped-seated g.T.Processor.seen g.T.Processor.stands g.T.Processor.never_fails
     (g.met.T.Processor g.world.𝓛 g.world.𝓜 g.world.𝓡 ((λ s x. x), (λ x. x), (λ x. x), λ x. x)).left_standing
-    c.args.lock.now c.args.pass c.give-pass.result c.args.processor.now c.work.new.self c.step_memory-stepped.new.self c.take-held.result.grip c.take-held.result.state c.state.result.now c.step_memory-stepped.new.memory
-    c.step_memory-stepped.result c.requires.seated c.work.ensures.works c.work.ensures.stands c.work.ensures.never_fails_kept c.take-held.ensures.grip c.take-held.ensures.state c.state.ensures.value
+    c.args.lock.now c.args.pass c.give-pass.result c.args.processor.now c.work.new.self c.step_memory-stepped.new.self c.take-held.result.grip c.take-held.result.state c.state-memory.result.now c.step_memory-stepped.new.memory
+    c.step_memory-stepped.result c.requires.seated c.work.ensures.works c.work.ensures.stands c.work.ensures.never_fails_kept c.take-held.ensures.grip c.take-held.ensures.state c.state-memory.ensures.value
     (c.step_memory-stepped.ensures.event, c.step_memory-stepped.ensures.blocked, c.step_memory-stepped.ensures.refused) c.step_memory-stepped.ensures.never_fails_kept c.step_memory-stepped.ensures.stands
     c.give-pass.ensures.lock c.give-pass.ensures.known
 
@@ -37,13 +37,13 @@ pub returns-in-Err : goal.returns-in-Err
 returns-in-Err g c =
     let seated = stepped-seated g.T.Processor.seen g.T.Processor.stands g.T.Processor.never_fails
     (g.met.T.Processor g.world.𝓛 g.world.𝓜 g.world.𝓡 ((λ s x. x), (λ x. x), (λ x. x), λ x. x)).left_standing
-    c.args.lock.now c.args.pass c.give-pass.result c.args.processor.now c.work.new.self c.step_memory-stepped.new.self c.take-held.result.grip c.take-held.result.state c.state.result.now c.step_memory-stepped.new.memory
-    c.step_memory-stepped.result c.requires.seated c.work.ensures.works c.work.ensures.stands c.work.ensures.never_fails_kept c.take-held.ensures.grip c.take-held.ensures.state c.state.ensures.value
+    c.args.lock.now c.args.pass c.give-pass.result c.args.processor.now c.work.new.self c.step_memory-stepped.new.self c.take-held.result.grip c.take-held.result.state c.state-memory.result.now c.step_memory-stepped.new.memory
+    c.step_memory-stepped.result c.requires.seated c.work.ensures.works c.work.ensures.stands c.work.ensures.never_fails_kept c.take-held.ensures.grip c.take-held.ensures.state c.state-memory.ensures.value
     (c.step_memory-stepped.ensures.event, c.step_memory-stepped.ensures.blocked, c.step_memory-stepped.ensures.refused) c.step_memory-stepped.ensures.never_fails_kept c.step_memory-stepped.ensures.stands
     c.give-pass.ensures.lock c.give-pass.ensures.known
     in (
       seated.0,
       seated.1,
-      refused-ended (g.T.Processor.seen c.work.new.self) (g.T.Processor.seen c.step_memory-stepped.new.self) c.give-pass.result c.take-held.result.grip.known c.take-held.result.grip.taken c.state.result.now c.step_memory-stepped.new.memory c.in-Err.refusal
+      refused-ended (g.T.Processor.seen c.work.new.self) (g.T.Processor.seen c.step_memory-stepped.new.self) c.give-pass.result c.take-held.result.grip.known c.take-held.result.grip.taken c.state-memory.result.now c.step_memory-stepped.new.memory c.in-Err.refusal
           c.give-pass.ensures.known c.in-Err.ensures.refused c.in-Err.ensures.worn,
     )

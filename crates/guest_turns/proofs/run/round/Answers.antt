@@ -22,7 +22,7 @@ loop-cpu-preserved g c =
       go_on = go_on-then seen g.T.Processor.stands g.T.Processor.never_fails old mid new before between after inv.go_on e.go_on;
       walk = subst (λ turns. WalksOn turns (map seen old) (map seen new) before after) (sym (numbers-next cpu))
           (walks-then (numbers_from 0 cpu) (cpu ∷ []) (map seen old) (map seen mid) (map seen new) before between after inv.go_on.stand.together.same inv.walk e.walk);
-      so_far = so_far-push c.in_ok-turn.field-0 c.turn.result cpu (map seen old) (map seen mid) (map seen new) between after c.in_ok-turn.was c.turn.ensures.event c.turn.ensures.none inv.so_far;
+      so_far = so_far-push c.in_ok-turn.field-0 c.turn.result cpu (map seen old) (map seen mid) (map seen new) before between after c.in_ok-turn.was c.turn.ensures.event c.turn.ensures.none inv.so_far;
     }
 
 pub returns-clause-less : goal.returns-clause-less
@@ -34,4 +34,4 @@ returns-clause-less g c =
     let same = go_on-length seen g.T.Processor.stands g.T.Processor.never_fails old new c.args.memory.now c.loop-cpu.memory c.requires.stand inv.go_on in
     let all = length-map new seen in
     let cpus : length (map seen new) ≡ c.loop-cpu.cpu = omega (arith, same, all) in
-    round-less c.args.memory.now.boot (map seen old) (map seen new) c.loop-cpu.memory c.loop-cpu.cpu inv.go_on.stand.together cpus inv.so_far
+    round-less c.args.memory.now.boot (map seen old) (map seen new) c.args.memory.now c.loop-cpu.memory c.loop-cpu.cpu inv.go_on.stand.together cpus inv.so_far

@@ -8,5 +8,5 @@ abbrev pub invariant-loop-cpu : goal.invariant-loop-cpu
 invariant-loop-cpu g l = record {
   go_on : GoOn g.T.Processor.seen g.T.Processor.stands g.T.Processor.never_fails l.fn.processors.items l.processors.items l.fn.memory l.memory;
   walk : WalksOn (numbers_from 0 l.cpu) (map g.T.Processor.seen l.fn.processors.items) (map g.T.Processor.seen l.processors.items) l.fn.memory l.memory;
-  so_far : SoFar l.cpu (map g.T.Processor.seen l.fn.processors.items) (map g.T.Processor.seen l.processors.items) l.memory.entries;
+  so_far : SoFar l.cpu (map g.T.Processor.seen l.fn.processors.items) (map g.T.Processor.seen l.processors.items) l.fn.memory l.memory;
 }

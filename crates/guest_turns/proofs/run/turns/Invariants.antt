@@ -11,4 +11,4 @@ invariant-loop-alloc g l = record {
 }
 
 abbrev pub decreases-loop-alloc : goal.decreases-loop-alloc
-decreases-loop-alloc g l = all_left (map g.T.Processor.seen l.processors.items)
+decreases-loop-alloc g l = all_left (map g.T.Processor.seen l.processors.items) l.memory

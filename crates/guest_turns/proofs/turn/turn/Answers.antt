@@ -41,7 +41,7 @@ returns-clause-walk g c =
     let at = slice_get_read all _ c.args.cpu was refl c.requires.cpu c.index_mut.ensures.value in
     let e = c.one_turn.ensures in
     subst (λ new. OnOk c.one_turn.result (WalksOn (c.args.cpu ∷ []) (map seen all) new before after)) (sym (map-set seen all c.args.cpu now))
-    (turn-walks c.one_turn.result (map seen all) c.args.cpu (seen was) (seen now) before after c.requires.stand.together (seen-at seen all c.args.cpu was at) (laws.told now after e.stand) e.event e.none)
+    (turn-walks c.one_turn.result (map seen all) c.args.cpu (seen was) (seen now) before after c.requires.stand.together (seen-at seen all c.args.cpu was at) e.event e.none)
 
 pub returns-clause-event : goal.returns-clause-event
 returns-clause-event g c is =
@@ -50,7 +50,7 @@ returns-clause-event g c is =
     let was = c.index_mut.result.now in
     let now = c.one_turn.new.processor in
     let at = slice_get_read all _ c.args.cpu was refl c.requires.cpu c.index_mut.ensures.value in
-    subst (λ new. all_left new < all_left (map seen all)) (sym (map-set seen all c.args.cpu now))
+    subst (λ new. all_left new c.one_turn.new.memory < all_left (map seen all) c.args.memory.now) (sym (map-set seen all c.args.cpu now))
     (event-leaves (map seen all) c.args.cpu (seen was) (seen now) c.args.memory.now c.one_turn.new.memory (seen-at seen all c.args.cpu was at) (c.one_turn.ensures.event is))
 
 pub returns-clause-none : goal.returns-clause-none

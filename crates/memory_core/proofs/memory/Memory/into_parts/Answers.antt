@@ -12,4 +12,4 @@ pub returns-clause-table : goal.returns-clause-table
 returns-clause-table c =
     let i = c.self.inside in
     let P : MemoryValue → Type 0 = λ m. GivesTable m i.table in
-    subst P c.self.view_is (gives-table i.boot.value i.entries i.last i.table i.bits i.accepting i.unit_pages i.kept i.room c.self.invariant.0)
+    subst P c.self.view_is (gives-table i.boot.value i.entries i.last i.table i.bits i.accepting i.blocks i.unit_pages i.kept i.room c.self.invariant.0)

@@ -1,7 +1,8 @@
-use Rattle.std.proofs.Common.{◌≡◌, ◌+◌, ◌-◌, ◌<◌, ◌≤◌, true, None, Some, ◌++◌, sym, ◌∙◌, ap, subst, arith, refl, rules}
+use Rattle.std.proofs.Common.{◌≡◌, ◌+◌, ◌-◌, ◌<◌, ◌≤◌, true, None, Some, List, ◌++◌, sym, ◌∙◌, ap, subst, arith, refl, rules}
 use Rattle.guest_base.specs.Ranges.{in_range}
 use Rattle.guest_base.specs.declared.memory.Pages.{Pages}
 use Rattle.guest_base.specs.declared.memory.Units.{Units}
+use Rattle.event_core.specs.declared.entry.Entry.{Entry}
 use Rattle.event_core.specs.declared.entry.Turn.{Turn}
 use Rattle.event_core.specs.Calls.{calls_of}
 use Rattle.event_core.specs.Claims.{Claimed, claim_of}
@@ -12,6 +13,7 @@ use Rattle.page_module.specs.States.{state_in}
 use Rattle.page_module.specs.Tables.{run_count}
 use Rattle.page_module.specs.declared.ticket.Ticket.{Ticket}
 use Rattle.accept_sizes.specs.Accepts.{pending_of}
+use Rattle.accept_sizes.specs.Ends.{stopped_at}
 use Rattle.accepting_ranges.specs.Claims.{kept_of, MeetsNone}
 use Rattle.accepting_ranges.proofs.ClaimLemmas.{kept_of-inside}
 use Rattle.memory_core.specs.Bitmaps.{bits_in}
@@ -20,15 +22,17 @@ use Rattle.memory_core.specs.OpenClaims.{units_of}
 use Rattle.memory_core.specs.StandsFor.{pieces_for}
 use Rattle.memory_core.specs.Steps.{BringsTo}
 use Rattle.memory_core.specs.Value.{MemoryValue}
+use Rattle.memory_core.specs.Waiting.{waiting_left}
 use Rattle.memory_core.specs.declared.claims.OpenClaim.{OpenClaim}
 use Rattle.memory_core.specs.declared.memory.Reported.{Reported}
 use Rattle.memory_core.proofs.BegunLemmas.{seen, goes-on-of, closes-of}
 use Rattle.memory_core.proofs.BitsLemmas.{run-pages-are, cleared-same}
+use Rattle.memory_core.proofs.BlockStepLemmas.{closed-go, may-put-back, next-go, report-falls, report-fewer, room-closed, room-next}
 use Rattle.memory_core.proofs.CloseLemmas.{stands-closed, stands-next, calls-after}
 use Rattle.memory_core.proofs.KeptLemmas.{opened-less}
 use Rattle.memory_core.proofs.HoldsLemmas.{kept-open}
 use Rattle.memory_core.proofs.OpenLemmas.{kept-same, room-take, runs-few}
-use Rattle.memory_core.proofs.ReportLemmas.{opened, next-here, next-has}
+use Rattle.memory_core.proofs.ReportLemmas.{accepts, opened, next-here, next-has}
 use Rattle.memory_core.proofs.ReportedLemmas.{same-claim, reports-of, kept-covers, kept-next, clock-kept, next-opens, next-found, entries-are, cleared-is, others-reported, reported-closed, appends-reported}
 use Rattle.memory_core.proofs.memory.Memory.report.Goals as goal
 
@@ -138,9 +142,11 @@ invariant_of-self c =
     let clock = clock-kept i.boot.value i.entries.items i.accepting i.room c.args.turn.now.clock i.last c.args.self.now c.self.view_is s.last_is c.requires.step.clock in
     let same : o.ticket.room ≡ c.args.span.ticket.room = ap (λ (t : Ticket). t.room) r.ticket in
     let put = c.put.ensures.room in (
-      stands-next i.boot.value i.entries c.append.new.entries i.last c.append.new.last i.table c.put.new.self c.take-span.new.self i.bits c.clear_run.new.bits i.accepting c.add.new.self i.unit_pages i.kept _ i.room c.args.turn.now c.args.calls o made c.requires.step.claim c.args.span c.take-span.result c.args.end c.clear_run.result c.in-Some.run' c.run_pages.result
+      stands-next i.boot.value i.entries c.append.new.entries i.last c.append.new.last i.table c.put.new.self c.take-span.new.self i.bits c.clear_run.new.bits i.accepting c.add.new.self i.blocks i.blocks i.unit_pages i.kept _ i.room c.args.turn.now c.args.calls o made c.requires.step.claim c.args.span c.take-span.result c.args.end c.clear_run.result c.in-Some.run' c.run_pages.result
           s r entries c.append.ensures.capacity c.append.ensures.last clock n.stop n.next n.some n.fits refl
-          (let P : Units → Type 0 = λ u. c.clear_run.result ≤ u.count in subst P mine.run c.clear_run.ensures.few) (omega (arith, same, put)) pages c.take-span.ensures.pages c.take-span.ensures.rest c.take-span.ensures.out c.take-span.ensures.room set refl,
+          (let P : Units → Type 0 = λ u. c.clear_run.result ≤ u.count in subst P mine.run c.clear_run.ensures.few) (omega (arith, same, put)) pages c.take-span.ensures.pages c.take-span.ensures.rest c.take-span.ensures.out c.take-span.ensures.room set refl
+          (next-go i.boot.value i.entries.items c.args.turn.now i.last i.blocks c.add.new.self 0 c.requires.step.claim c.args.calls c.in-Some.run' s.settled s.steady.waiting s.blocks_are r.claimed (accepts i.boot.value (calls_of i.boot.value i.entries.items) c.args.calls (claim_of i.boot.value i.entries.items) i.table c.put.new.self i.bits c.clear_run.new.bits (kept_of i.accepting) c.args.turn.now.cpu.0 c.remove-claim.result c.requires.step.claim c.args.span c.args.end c.clear_run.result r) n.next n.stop
+          (room-next i.blocks i.accepting c.add.new.self c.args.turn.now.cpu.0 i.room o made s.block_room r.keeps set refl)),
       record { empty = c.self.invariant.1.empty; enough = omega arith },
     )
 
@@ -152,11 +158,44 @@ invariant_of-self-in-None-1 c =
     c.requires.step.claimed c.remove-claim.ensures.taken c.requires.step.out s.steady.runs_keep c.requires.step.brings c.clear_run.ensures.cleared c.put.ensures.states c.put.ensures.out in
     let entries = entries-are i.boot.value i.entries.items c.args.calls i.table c.put.new.self i.bits c.clear_run.new.bits i.accepting c.args.turn.now.cpu.0 c.remove-claim.result c.requires.step.claim c.args.span c.args.end c.clear_run.result r c.append.new.entries.items c.args.turn.now i.last c.stopped_page.result c.next_run_of-next.result c.stopped_page.ensures c.next_run_of-next.ensures c.append.ensures.entries in
     let next : next_run i.boot.value c.requires.step.claim (stop_of c.args.calls) ≡ None = sym (c.next_run_of-next.ensures ∙ next-found i.boot.value i.entries.items c.args.calls i.table c.put.new.self i.bits c.clear_run.new.bits i.accepting c.args.turn.now.cpu.0 c.remove-claim.result c.requires.step.claim c.args.span c.args.end c.clear_run.result r) ∙ c.in-None.is in
+    let mine = opened i.boot.value (calls_of i.boot.value i.entries.items) c.args.calls (claim_of i.boot.value i.entries.items) i.table c.put.new.self i.bits c.clear_run.new.bits (kept_of i.accepting) c.args.turn.now.cpu.0 c.remove-claim.result c.requires.step.claim c.args.span c.args.end c.clear_run.result r in
     let clock = clock-kept i.boot.value i.entries.items i.accepting i.room c.args.turn.now.clock i.last c.args.self.now c.self.view_is s.last_is c.requires.step.clock in (
-      stands-closed i.boot.value i.entries c.append.new.entries i.last c.append.new.last i.table c.put.new.self i.bits c.clear_run.new.bits i.accepting c.remove-claim.new.self i.unit_pages i.kept _ i.room c.args.turn.now c.args.calls c.remove-claim.result c.requires.step.claim c.args.span c.args.end c.clear_run.result
-          s r entries c.append.ensures.capacity c.append.ensures.last clock next c.remove-claim.ensures.rest refl c.put.ensures.room_kept,
+      stands-closed i.boot.value i.entries c.append.new.entries i.last c.append.new.last i.table c.put.new.self i.bits c.clear_run.new.bits i.accepting c.remove-claim.new.self i.blocks c.put_back.new.blocks i.unit_pages i.kept _ i.room c.args.turn.now c.args.calls c.remove-claim.result c.requires.step.claim c.args.span c.args.end c.clear_run.result
+          s r entries c.append.ensures.capacity c.append.ensures.last clock next c.remove-claim.ensures.rest refl c.put.ensures.room_kept
+          (closed-go i.boot.value i.entries.items c.args.turn.now i.last i.blocks c.put_back.new.blocks c.remove-claim.new.self i.room c.requires.step.claim c.args.calls c.remove-claim.result.block (stopped_at c.args.end) s.settled s.steady.waiting s.blocks_are r.claimed (accepts i.boot.value (calls_of i.boot.value i.entries.items) c.args.calls (claim_of i.boot.value i.entries.items) i.table c.put.new.self i.bits c.clear_run.new.bits (kept_of i.accepting) c.args.turn.now.cpu.0 c.remove-claim.result c.requires.step.claim c.args.span c.args.end c.clear_run.result r) next mine.block r.brings.stop c.put_back.ensures
+          (room-closed i.blocks c.put_back.new.blocks i.accepting c.remove-claim.new.self c.args.turn.now.cpu.0 i.room c.remove-claim.result (stopped_at c.args.end) s.block_room r.keeps c.remove-claim.ensures.rest c.put_back.ensures)),
       c.self.invariant.1,
     )
+
+pub put_back-requires-clause-may : goal.put_back-requires-clause-may
+put_back-requires-clause-may c =
+    let i = c.self.inside in
+    let s = c.self.invariant.0 in
+    let r = reports-of i.boot.value i.entries.items i.accepting i.room c.args.self.now c.args.calls i.table c.put.new.self i.bits c.clear_run.new.bits c.args.turn.now.cpu.0 c.remove-claim.result c.requires.step.claim c.args.span c.args.end c.clear_run.result c.self.view_is s.holds s.same_bits s.booted.some
+    c.requires.step.claimed c.remove-claim.ensures.taken c.requires.step.out s.steady.runs_keep c.requires.step.brings c.clear_run.ensures.cleared c.put.ensures.states c.put.ensures.out in
+    let mine = opened i.boot.value (calls_of i.boot.value i.entries.items) c.args.calls (claim_of i.boot.value i.entries.items) i.table c.put.new.self i.bits c.clear_run.new.bits (kept_of i.accepting) c.args.turn.now.cpu.0 c.remove-claim.result c.requires.step.claim c.args.span c.args.end c.clear_run.result r in
+    let back = may-put-back i.boot.value i.entries.items i.blocks i.accepting c.args.turn.now.cpu.0 i.room c.remove-claim.result c.requires.step.claim s.settled s.blocks_are s.block_room r.claimed mine.block r.keeps in
+    back.may
+
+pub put_back-requires-clause-order : goal.put_back-requires-clause-order
+put_back-requires-clause-order c =
+    let i = c.self.inside in
+    let s = c.self.invariant.0 in
+    let r = reports-of i.boot.value i.entries.items i.accepting i.room c.args.self.now c.args.calls i.table c.put.new.self i.bits c.clear_run.new.bits c.args.turn.now.cpu.0 c.remove-claim.result c.requires.step.claim c.args.span c.args.end c.clear_run.result c.self.view_is s.holds s.same_bits s.booted.some
+    c.requires.step.claimed c.remove-claim.ensures.taken c.requires.step.out s.steady.runs_keep c.requires.step.brings c.clear_run.ensures.cleared c.put.ensures.states c.put.ensures.out in
+    let mine = opened i.boot.value (calls_of i.boot.value i.entries.items) c.args.calls (claim_of i.boot.value i.entries.items) i.table c.put.new.self i.bits c.clear_run.new.bits (kept_of i.accepting) c.args.turn.now.cpu.0 c.remove-claim.result c.requires.step.claim c.args.span c.args.end c.clear_run.result r in
+    let back = may-put-back i.boot.value i.entries.items i.blocks i.accepting c.args.turn.now.cpu.0 i.room c.remove-claim.result c.requires.step.claim s.settled s.blocks_are s.block_room r.claimed mine.block r.keeps in
+    back.order
+
+pub put_back-requires-clause-room : goal.put_back-requires-clause-room
+put_back-requires-clause-room c =
+    let i = c.self.inside in
+    let s = c.self.invariant.0 in
+    let r = reports-of i.boot.value i.entries.items i.accepting i.room c.args.self.now c.args.calls i.table c.put.new.self i.bits c.clear_run.new.bits c.args.turn.now.cpu.0 c.remove-claim.result c.requires.step.claim c.args.span c.args.end c.clear_run.result c.self.view_is s.holds s.same_bits s.booted.some
+    c.requires.step.claimed c.remove-claim.ensures.taken c.requires.step.out s.steady.runs_keep c.requires.step.brings c.clear_run.ensures.cleared c.put.ensures.states c.put.ensures.out in
+    let mine = opened i.boot.value (calls_of i.boot.value i.entries.items) c.args.calls (claim_of i.boot.value i.entries.items) i.table c.put.new.self i.bits c.clear_run.new.bits (kept_of i.accepting) c.args.turn.now.cpu.0 c.remove-claim.result c.requires.step.claim c.args.span c.args.end c.clear_run.result r in
+    let back = may-put-back i.boot.value i.entries.items i.blocks i.accepting c.args.turn.now.cpu.0 i.room c.remove-claim.result c.requires.step.claim s.settled s.blocks_are s.block_room r.claimed mine.block r.keeps in
+    back.room
 
 pub returns-in-Some-clause-reported : goal.returns-in-Some-clause-reported
 returns-in-Some-clause-reported c claim' has =
@@ -202,7 +241,8 @@ returns-in-Some-clause-others c =
     (c.with_next-claim.ensures ∙ ap (λ t. let k : OpenClaim = record made { ticket = t } in k) c.ticket.ensures) in
     let P : MemoryValue → Type 0 = λ m. OthersKeep m (seen i.boot.value c.append.new.entries.items c.add.new.self 0) c.args.turn.now.cpu.0 in
     subst P c.self.view_is
-    (others-reported i.boot.value i.entries.items c.args.calls i.table c.put.new.self i.bits c.clear_run.new.bits i.accepting c.args.turn.now.cpu.0 c.remove-claim.result c.requires.step.claim c.args.span c.args.end c.clear_run.result r c.append.new.entries.items c.add.new.self i.room 0 (Some made) (calls-after i.boot.value i.entries.items c.append.new.entries.items c.args.turn.now i.last c.requires.step.claim c.args.calls entries) set)
+    (others-reported i.boot.value i.entries.items c.args.calls i.table c.put.new.self i.bits c.clear_run.new.bits i.accepting c.args.turn.now.cpu.0 c.remove-claim.result c.requires.step.claim c.args.span c.args.end c.clear_run.result r c.append.new.entries.items c.add.new.self i.room 0 (Some made) (calls-after i.boot.value i.entries.items c.append.new.entries.items c.args.turn.now i.last c.requires.step.claim c.args.calls entries)
+    (let W : List Entry → Type 0 = λ es. waiting_left i.boot.value es ≤ waiting_left i.boot.value i.entries.items in subst W (sym entries) (report-falls i.boot.value i.entries.items c.args.turn.now i.last c.requires.step.claim c.args.calls r.claimed)) set)
 
 pub returns-in-None-clause-reported : goal.returns-in-None-clause-reported
 returns-in-None-clause-reported c claim' has =
@@ -211,6 +251,7 @@ returns-in-None-clause-reported c claim' has =
     let r = reports-of i.boot.value i.entries.items i.accepting i.room c.args.self.now c.args.calls i.table c.put.new.self i.bits c.clear_run.new.bits c.args.turn.now.cpu.0 c.remove-claim.result c.requires.step.claim c.args.span c.args.end c.clear_run.result c.self.view_is s.holds s.same_bits s.booted.some
     c.requires.step.claimed c.remove-claim.ensures.taken c.requires.step.out s.steady.runs_keep c.requires.step.brings c.clear_run.ensures.cleared c.put.ensures.states c.put.ensures.out in
     let next : next_run i.boot.value c.requires.step.claim (stop_of c.args.calls) ≡ None = sym (c.next_run_of-next.ensures ∙ next-found i.boot.value i.entries.items c.args.calls i.table c.put.new.self i.bits c.clear_run.new.bits i.accepting c.args.turn.now.cpu.0 c.remove-claim.result c.requires.step.claim c.args.span c.args.end c.clear_run.result r) ∙ c.in-None.is in
+    let entries = entries-are i.boot.value i.entries.items c.args.calls i.table c.put.new.self i.bits c.clear_run.new.bits i.accepting c.args.turn.now.cpu.0 c.remove-claim.result c.requires.step.claim c.args.span c.args.end c.clear_run.result r c.append.new.entries.items c.args.turn.now i.last c.stopped_page.result c.next_run_of-next.result c.stopped_page.ensures c.next_run_of-next.ensures c.append.ensures.entries in
     let same = same-claim (claim_of c.args.self.now.boot c.args.self.now.entries c.args.turn.now.cpu.0) c.requires.step.claim claim' c.requires.step.claimed has in
     let new = seen i.boot.value c.append.new.entries.items c.remove-claim.new.self i.room in
     let answer = answer_at c.args.end (c.remove-claim.result.cleared + c.clear_run.result) in
@@ -222,7 +263,8 @@ returns-in-None-clause-reported c claim' has =
     (subst P c.self.view_is
     (reported-closed (seen i.boot.value i.entries.items i.accepting i.room) new c.args.turn.now c.requires.step.claim c.args.calls c.args.end (c.remove-claim.result.cleared + c.clear_run.result) r.brings.stop next
     (cleared-is i.boot.value i.entries.items c.args.calls i.table c.put.new.self i.bits c.clear_run.new.bits i.accepting c.args.turn.now.cpu.0 c.remove-claim.result c.requires.step.claim c.args.span c.args.end c.clear_run.result r)
-    (closes-of i.boot.value i.entries.items c.append.new.entries.items i.accepting c.remove-claim.new.self i.room c.args.turn.now.cpu.0 (kept_of-inside i.accepting c.args.turn.now.cpu.0 c.remove-claim.result c.remove-claim.ensures.taken) c.remove-claim.ensures.rest))))
+    (closes-of i.boot.value i.entries.items c.append.new.entries.items i.accepting c.remove-claim.new.self i.room c.args.turn.now.cpu.0 (kept_of-inside i.accepting c.args.turn.now.cpu.0 c.remove-claim.result c.remove-claim.ensures.taken) c.remove-claim.ensures.rest)
+    (λ stop some. let W : List Entry → Type 0 = λ es. waiting_left i.boot.value es < waiting_left i.boot.value i.entries.items in subst W (sym entries) (report-fewer i.boot.value i.entries.items c.args.turn.now i.last c.requires.step.claim c.args.calls c.requires.step.claim.block s.settled r.claimed stop next refl some)))))
 
 pub returns-in-None-clause-appends : goal.returns-in-None-clause-appends
 returns-in-None-clause-appends c claim' has =
@@ -242,7 +284,8 @@ returns-in-None-clause-others c =
     let entries = entries-are i.boot.value i.entries.items c.args.calls i.table c.put.new.self i.bits c.clear_run.new.bits i.accepting c.args.turn.now.cpu.0 c.remove-claim.result c.requires.step.claim c.args.span c.args.end c.clear_run.result r c.append.new.entries.items c.args.turn.now i.last c.stopped_page.result c.next_run_of-next.result c.stopped_page.ensures c.next_run_of-next.ensures c.append.ensures.entries in
     let P : MemoryValue → Type 0 = λ m. OthersKeep m (seen i.boot.value c.append.new.entries.items c.remove-claim.new.self i.room) c.args.turn.now.cpu.0 in
     subst P c.self.view_is
-    (others-reported i.boot.value i.entries.items c.args.calls i.table c.put.new.self i.bits c.clear_run.new.bits i.accepting c.args.turn.now.cpu.0 c.remove-claim.result c.requires.step.claim c.args.span c.args.end c.clear_run.result r c.append.new.entries.items c.remove-claim.new.self i.room i.room None (calls-after i.boot.value i.entries.items c.append.new.entries.items c.args.turn.now i.last c.requires.step.claim c.args.calls entries) c.remove-claim.ensures.rest)
+    (others-reported i.boot.value i.entries.items c.args.calls i.table c.put.new.self i.bits c.clear_run.new.bits i.accepting c.args.turn.now.cpu.0 c.remove-claim.result c.requires.step.claim c.args.span c.args.end c.clear_run.result r c.append.new.entries.items c.remove-claim.new.self i.room i.room None (calls-after i.boot.value i.entries.items c.append.new.entries.items c.args.turn.now i.last c.requires.step.claim c.args.calls entries)
+    (let W : List Entry → Type 0 = λ es. waiting_left i.boot.value es ≤ waiting_left i.boot.value i.entries.items in subst W (sym entries) (report-falls i.boot.value i.entries.items c.args.turn.now i.last c.requires.step.claim c.args.calls r.claimed)) c.remove-claim.ensures.rest)
 
 pub returns-in-Some-clause-brings : goal.returns-in-Some-clause-brings
 returns-in-Some-clause-brings c claim' has =

@@ -1,0 +1,35 @@
+use Rattle.event_core.specs.declared.command.Command.TheVariants as command
+use Rattle.guest_cpu.proofs.MayLemmas.{may-all}
+use Rattle.guest_cpu.proofs.MemoryLemmas.{free-all, owns-taken}
+use Rattle.guest_cpu.proofs.cpu.Cpu.free.Goals as goal
+
+pub free-requires-clause-may : goal.free-requires-clause-may
+free-requires-clause-may g c =
+    let cpu = c.args.self.now in
+    let e = c.take_entry_room.ensures in
+    may-all (g.P.Port.made cpu.port_before.value) (g.P.Port.made cpu.port) (g.P.Port.faults cpu.port_before.value) (g.P.Port.faults cpu.port) (g.P.Port.room cpu.port) cpu.progress c.take_entry_room.new.progress c.args.memory.now c.take_entry_room.new.memory
+    (command.Free c.args.name) c.requires.stands e.progress e.memory c.requires.steps
+
+pub free-requires-clause-owner : goal.free-requires-clause-owner
+free-requires-clause-owner g c =
+    let cpu = c.args.self.now in
+    let e = c.take_entry_room.ensures in
+    owns-taken (g.P.Port.made cpu.port_before.value) (g.P.Port.made cpu.port) (g.P.Port.faults cpu.port_before.value) (g.P.Port.faults cpu.port) cpu.progress c.take_entry_room.new.progress (g.P.Port.room cpu.port) c.args.memory.now c.take_entry_room.new.memory c.requires.stands e.progress e.memory _
+
+pub returns-clause-stands : goal.returns-clause-stands
+returns-clause-stands g c =
+    let cpu = c.args.self.now in
+    let e = c.take_entry_room.ensures in
+    let all = free-all (g.P.Port.made cpu.port_before.value) (g.P.Port.made cpu.port) (g.P.Port.faults cpu.port_before.value) (g.P.Port.faults cpu.port)
+    cpu.progress c.take_entry_room.new.progress c.free.new.self (g.P.Port.room cpu.port) c.args.memory.now c.take_entry_room.new.memory c.free.new.memory
+    c.requires.stands e.progress e.memory c.free.ensures.same c.args.name c.requires.steps c.free.ensures.frees in
+    all.stands
+
+pub returns-clause-event : goal.returns-clause-event
+returns-clause-event g c =
+    let cpu = c.args.self.now in
+    let e = c.take_entry_room.ensures in
+    let all = free-all (g.P.Port.made cpu.port_before.value) (g.P.Port.made cpu.port) (g.P.Port.faults cpu.port_before.value) (g.P.Port.faults cpu.port)
+    cpu.progress c.take_entry_room.new.progress c.free.new.self (g.P.Port.room cpu.port) c.args.memory.now c.take_entry_room.new.memory c.free.new.memory
+    c.requires.stands e.progress e.memory c.free.ensures.same c.args.name c.requires.steps c.free.ensures.frees in
+    all.makes
