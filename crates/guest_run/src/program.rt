@@ -141,7 +141,7 @@ fn end_run<K: Sink>(
 /// its bits for those of the map. `--areas N` gives the areas of the pool, a power of two from 1 to 64; without it there are as many
 /// as scripts, raised to a power of two. `read_words` tells where options may stand.
 ///
-/// Today scripts have to be of `accept` and `query` lines.
+/// A script with a command other than `accept`, `query`, `alloc`, `free`, `read`, `write`, `fill` and `load` is refused.
 ///
 /// It takes no lock and always returns. Other arguments, those of a run on threads among them, are refused with status 2. `Did` says
 /// what came of it.
