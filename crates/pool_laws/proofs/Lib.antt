@@ -1,0 +1,5 @@
+pub mod DisjointFacts
+pub mod LiveLemmas
+pub mod LookFacts
+pub mod RefusalFacts
+pub mod StepFacts
