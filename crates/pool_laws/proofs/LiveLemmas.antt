@@ -413,7 +413,7 @@ areas-some : (number slots : ℕ) (live : List SlotRun) → All (IsInArea number
 areas-some number slots live all k d low = (all k d low).some
 
 -- what stands after a run was found that lies in the area and whose slots were free
-stand-with : (number slots : ℕ) (moved : List Moved) (m : Moved) (run : SlotRun) → m.entry.event ≡ Looked number (Some run) → IsInArea number slots run
+pub stand-with : (number slots : ℕ) (moved : List Moved) (m : Moved) (run : SlotRun) → m.entry.event ≡ Looked number (Some run) → IsInArea number slots run
     → ((slot : ℕ) → in_range run.first run.count slot ≡ true → is_used (live_in moved) slot ≡ false) → MappingsStand number slots moved → MappingsStand number slots (moved ++ m ∷ [])
 stand-with number slots moved m run is inside free stands =
     let all : live_in (moved ++ m ∷ []) ≡ run ∷ live_in moved = live-in-push moved m ∙ ap (live_after (live_in moved)) is in

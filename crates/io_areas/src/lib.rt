@@ -1,0 +1,9 @@
+//! An area of the bounce-buffer pool: what its lock holds.
+#![tactic(auto)]
+
+mod area;
+#[cfg(test)]
+mod tests;
+mod transfers;
+
+pub use area::Area;
