@@ -1,4 +1,3 @@
-pub mod Logged
 pub mod Room
 pub mod Accepts
 pub mod Ends

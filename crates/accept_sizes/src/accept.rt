@@ -13,10 +13,9 @@ ghost use Rattle.accept_sizes.specs.Room.{most_calls_of, KeepsRoom};
 ghost use Rattle.accept_sizes.specs.Accepts.{Accepts, span_end};
 ghost use Rattle.accept_sizes.specs.Ends.{stopped_at};
 
-use crate::log::CallLog;
 use event_core::{CallKind, Hosts, ModuleCall, PortAnswer};
 use guest_base::{Level, Page};
-use page_module::{Port, Span};
+use page_module::{CallLog, Port, Span};
 
 /// How the acceptance of a span's pending pages ended.
 #[derive(Clone, Copy, Debug, PartialEq, Eq)]

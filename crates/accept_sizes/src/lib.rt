@@ -2,10 +2,8 @@
 #![tactic(auto)]
 
 mod accept;
-mod log;
 
 pub use accept::{RunEnd, accept_run, most_calls};
-pub use log::CallLog;
 
 #[cfg(test)]
 mod tests;

@@ -2,10 +2,10 @@ ghost use Rattle.std.specs.Prelude.{◌≡◌, ◌<◌, ◌≤◌, IfOk};
 ghost use Rattle.guest_base.specs.declared.limits.TheConstants.{PAGE_END};
 ghost use Rattle.event_core.specs.Cut.{pages_end};
 
-use crate::{CallLog, RunEnd, accept_run, most_calls};
+use crate::{RunEnd, accept_run, most_calls};
 use event_core::{CallKind, Calls, Hosts, ModuleCall, PortAnswer, Runs};
 use guest_base::{HostRun, Level, Page, PageRun, PageState, Pages};
-use page_module::{MemPort, PageTable, Port, Span};
+use page_module::{CallLog, MemPort, PageTable, Port, Span};
 use std::alloc::{AllocError, Global};
 use std::test::Fail;
 

@@ -1,4 +1,4 @@
--- The calls of commands about ranges and blocks find their pages in the state that they need.
+-- The calls of commands that convert nothing find their pages in the state that they need.
 use Rattle.std.proofs.Common.{◌≡◌, List, [], ◌∷◌, ◌++◌, sym, ◌∙◌, ap, subst, inl, inr, append_assoc, append-nil}
 use Rattle.std.specs.Prelude.{length}
 use Rattle.std.specs.List.{AllByRecursion}
@@ -18,36 +18,32 @@ use Rattle.event_core.specs.Moved.{Moved, entries_of}
 use Rattle.event_core.specs.Runs.{state_in}
 use Rattle.event_core.proofs.SoundLemmas.{SoundCalls-append, accepts-sound, entries_of-push, placed-push, same_place-Memory}
 use Rattle.event_core.proofs.StandingLemmas.{IsPlaced, quiet, calls_of-memory, calls_of-push}
-use Rattle.block_laws.specs.BlockScripts.{BlockScripts}
+use Rattle.block_laws.specs.Unconverting.{ConvertNothing}
 use Rattle.block_laws.proofs.ClaimFacts.{legal-claims-apart}
-use Rattle.block_laws.proofs.EventFacts.{IsBlockEvent, follows-block}
+use Rattle.block_laws.proofs.EventFacts.{IsUnconverting}
+use Rattle.block_laws.proofs.RowFacts.{follows-unconverting}
 
 -- the calls of such an event that fit are sound after the memory's entries
-fit-sound : (boot : Boot) (memory : List Entry) (e : Event) → IsBlockEvent e → CallsFit boot memory e → SoundCalls (page_state boot (calls_of boot memory)) (calls_in e)
+fit-sound : (boot : Boot) (memory : List Entry) (e : Event) → IsUnconverting e → CallsFit boot memory e → SoundCalls (page_state boot (calls_of boot memory)) (calls_in e)
 fit-sound boot memory (event.Report run calls stopped next) is fit = accepts-sound boot (calls_of boot memory) run calls fit
-fit-sound boot memory event.Own is fit = tt
-fit-sound boot memory (event.Claim block units run) is fit = tt
-fit-sound boot memory (event.Got block) is fit = tt
-fit-sound boot memory event.NoBlock is fit = tt
-fit-sound boot memory (event.Freed block) is fit = tt
-fit-sound boot memory (event.Asked found) is fit = tt
-fit-sound boot memory (event.Touched page found) is fit = tt
-fit-sound boot memory _ is fit = absurd is
+fit-sound boot memory (event.ConvertBegin block to) is fit = absurd is
+fit-sound boot memory (event.ConvertEnd block calls end) is fit = absurd is
+fit-sound boot memory _ is fit = tt
 
-follows-sound : (boot : Boot) (scripts : List (List Command)) (history : List Moved) (entry : Entry) → BlockScripts scripts → AllByRecursion (IsPlaced boot) history → Follows boot scripts history entry → SoundCalls (page_state boot (calls_of boot (entries_of history))) (calls_in entry.event)
+follows-sound : (boot : Boot) (scripts : List (List Command)) (history : List Moved) (entry : Entry) → ConvertNothing scripts → AllByRecursion (IsPlaced boot) history → Follows boot scripts history entry → SoundCalls (page_state boot (calls_of boot (entries_of history))) (calls_in entry.event)
 follows-sound boot scripts history entry all placed f =
     elim (cases_Bool (same_place place.Memory (place_of boot entry.event))) [
       | inl t ↦
           (let at : entry.place ≡ place.Memory = f.over.place ∙ same_place-Memory (place_of boot entry.event) t in
           let P : List ModuleCall → Type 0 = λ calls. SoundCalls (page_state boot calls) (calls_in entry.event) in
           subst P (ap (λ p. calls_of boot (entries_of (at_place p history))) at ∙ calls_of-memory boot history placed)
-          (fit-sound boot (entries_of (at_place entry.place history)) entry.event (follows-block boot scripts history entry all f).event f.over.calls))
+          (fit-sound boot (entries_of (at_place entry.place history)) entry.event (follows-unconverting boot scripts history entry all f) f.over.calls))
       | inr q ↦
           (let P : List ModuleCall → Type 0 = λ calls. SoundCalls (page_state boot (calls_of boot (entries_of history))) calls in
           subst P (sym (quiet boot entry.event q).0) tt)
     ]
 
-sound-after : (boot : Boot) (scripts : List (List Command)) (history : List Moved) (entries : List Entry) → BlockScripts scripts → AllByRecursion (IsPlaced boot) history → SoundCalls (state_in boot.ram) (calls_of boot (entries_of history)) → LegalAfter boot scripts history entries → SoundCalls (state_in boot.ram) (calls_of boot (entries_of history ++ entries))
+sound-after : (boot : Boot) (scripts : List (List Command)) (history : List Moved) (entries : List Entry) → ConvertNothing scripts → AllByRecursion (IsPlaced boot) history → SoundCalls (state_in boot.ram) (calls_of boot (entries_of history)) → LegalAfter boot scripts history entries → SoundCalls (state_in boot.ram) (calls_of boot (entries_of history ++ entries))
 sound-after boot scripts history [] all placed sound legal = rw (append-nil (entries_of history)) sound
 sound-after boot scripts history (entry ∷ entries) all placed sound legal =
     let m = with_bytes boot scripts history entry in
@@ -60,7 +56,7 @@ sound-after boot scripts history (entry ∷ entries) all placed sound legal =
     (subst P (sym (ap (calls_of boot) pushed ∙ calls_of-push boot (entries_of history) entry)) now) legal.2)
 
 -- a legal history accepts no page twice, where boot's calls are sound
-pub blocks-accepted-once : (boot : Boot) (scripts : List (List Command)) (entries : List Entry) → BlockScripts scripts → length scripts ≡ boot.cpus → SoundCalls (state_in boot.ram) boot.calls → Legal boot scripts entries → AcceptedOnce boot entries
+pub blocks-accepted-once : (boot : Boot) (scripts : List (List Command)) (entries : List Entry) → ConvertNothing scripts → length scripts ≡ boot.cpus → SoundCalls (state_in boot.ram) boot.calls → Legal boot scripts entries → AcceptedOnce boot entries
 blocks-accepted-once boot scripts entries all cpus sound legal = record {
   sound = sound-after boot scripts [] entries all tt (rw (append-nil boot.calls) sound) legal;
   apart = legal-claims-apart boot scripts entries cpus legal;

@@ -40,7 +40,7 @@ use Rattle.event_core.specs.Refusals.{refusal_of}
 use Rattle.event_core.specs.Units.{guarded_units, units_end}
 use Rattle.event_core.proofs.SoundLemmas.{entries_of-push, placed-push, AreApart, Made, New, Kept, After, Mine, Before, apart-start, legal-front}
 use Rattle.event_core.proofs.StandingLemmas.{IsPlaced, claim_of-memory, claim_of-push}
-use Rattle.block_laws.proofs.CommandFacts.{command-of, step_told}
+use Rattle.event_core.proofs.CommandLemmas.{command-of, step_told}
 
 -- ---- a claim had nothing in its way
 

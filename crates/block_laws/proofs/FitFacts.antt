@@ -1,5 +1,5 @@
 -- What the memory's entries say of an event that follows them.
-use Rattle.std.proofs.Common.{◌≡◌, ℕ, Option, None, Some, List, refl}
+use Rattle.std.proofs.Common.{◌≡◌, ℕ, true, Option, None, Some, List, refl}
 use Rattle.guest_base.specs.Blocks.{pick}
 use Rattle.guest_base.specs.declared.memory.Block.{Block}
 use Rattle.guest_base.specs.declared.memory.Page.{Page}
@@ -7,18 +7,20 @@ use Rattle.guest_base.specs.declared.memory.Units.{Units}
 use Rattle.event_core.specs.declared.boot.Boot.{Boot}
 use Rattle.event_core.specs.declared.command.Command.{Command}
 use Rattle.event_core.specs.declared.entry.Entry.{Entry}
+use Rattle.event_core.specs.declared.entry.Place.TheVariants as place
 use Rattle.event_core.specs.declared.event.Event.{Event}
 use Rattle.event_core.specs.declared.event.Event.TheVariants as event
 use Rattle.event_core.specs.declared.module_call.ModuleCall.{ModuleCall}
 use Rattle.event_core.specs.Acceptance.{stop_of}
 use Rattle.event_core.specs.Blocks.{lowest_waiting, free_page, block_units}
 use Rattle.event_core.specs.Claims.{Claimed, claim_of}
-use Rattle.event_core.specs.Legal.{Follows, at_place}
+use Rattle.event_core.specs.Legal.{Follows, at_place, place_of, same_place}
 use Rattle.event_core.specs.MemoryRows.{run_of_claim, next_run}
 use Rattle.event_core.specs.Moved.{Moved, entries_of}
 use Rattle.event_core.specs.OwnRows.{found_at}
+use Rattle.block_laws.proofs.EventFacts.{area-elsewhere}
 use Rattle.block_laws.proofs.RowFacts.{follows-row}
-use Rattle.block_laws.specs.BlockScripts.{BlockScripts}
+use Rattle.block_laws.specs.Unconverting.{ConvertNothing}
 
 -- a claim of a processor without one: of its first run, and for the lowest waiting block where it is for a block
 pub record ClaimFits (boot : Boot) (memory : List Entry) (cpu : ℕ) (block : Option Block) (units run : Option Units) : Type 0 where
@@ -50,17 +52,21 @@ Fits boot memory cpu (event.Freed block) = Unit {0}
 Fits boot memory cpu (event.Asked found) = Unit {0}
 Fits boot memory cpu _ = ⊥
 
--- an event that follows fits
-pub follows-fits : (boot : Boot) (scripts : List (List Command)) (history : List Moved) (entry : Entry) → BlockScripts scripts → Follows boot scripts history entry → Fits boot (entries_of (at_place entry.place history)) entry.cpu.0 entry.event
+-- an event of the memory that follows fits
+abbrev FitsThere : Boot → List Entry → ℕ → Event → Type 0
+FitsThere boot memory cpu e = same_place place.Memory (place_of boot e) ≡ true → Fits boot memory cpu e
+
+pub follows-fits : (boot : Boot) (scripts : List (List Command)) (history : List Moved) (entry : Entry) → ConvertNothing scripts → Follows boot scripts history entry → same_place place.Memory (place_of boot entry.event) ≡ true → Fits boot (entries_of (at_place entry.place history)) entry.cpu.0 entry.event
 follows-fits boot scripts history entry all f =
-    follows-row (Fits boot (entries_of (at_place entry.place history)) entry.cpu.0) boot scripts history entry all f
+    follows-row (FitsThere boot (entries_of (at_place entry.place history)) entry.cpu.0) boot scripts history entry all f
     (record {
-      quiet = tt;
-      asked = λ found. tt;
-      claimed = λ block units none lowest. record { none = none; found = refl; lowest = lowest };
-      reported = λ claim calls is. record { claim = claim; opened = is; run_is = refl; stopped_is = refl; next_is = refl };
-      got = λ name order block its is. (order, is);
-      none = tt;
-      freed = λ name h its has. tt;
-      touched = λ page found at. at;
+      quiet = λ there. tt;
+      asked = λ found there. tt;
+      claimed = λ block units none lowest there. record { none = none; found = refl; lowest = lowest };
+      reported = λ claim calls is there. record { claim = claim; opened = is; run_is = refl; stopped_is = refl; next_is = refl };
+      got = λ name order block its is there. (order, is);
+      none = λ there. tt;
+      freed = λ name h its has there. tt;
+      touched = λ page found at there. at;
+      area = λ e is there. absurd (area-elsewhere boot e is there);
     })

@@ -14,6 +14,7 @@ use Rattle.guest_base.proofs.RangeLemmas.{in_range-intro, in_range-elim}
 use Rattle.guest_base.proofs.SearchLemmas.{first_such-Some, each_such-true}
 use Rattle.guest_base.specs.declared.memory.Block.{Block}
 use Rattle.guest_base.specs.declared.memory.PageState.TheVariants.{Accepted}
+use Rattle.guest_base.specs.declared.transfer.Direction.{Direction}
 use Rattle.event_core.specs.declared.boot.Boot.{Boot}
 use Rattle.event_core.specs.declared.command.Command.{Command}
 use Rattle.event_core.specs.declared.command.Command.TheVariants as command
@@ -28,15 +29,15 @@ use Rattle.event_core.specs.Absent.{in_block}
 use Rattle.event_core.specs.Blocks.{BlockState, Waits, InFlight, Loose, block_state, is_loose, is_owned, free_page}
 use Rattle.event_core.specs.Calls.{States, calls_of}
 use Rattle.event_core.specs.Cut.{cut}
-use Rattle.event_core.specs.Holdings.{Holding, Own, block_named, same_block}
+use Rattle.event_core.specs.Holdings.{Holding, Mapping, Own, block_named, mapping_named, same_block}
 use Rattle.event_core.specs.MemoryRows.{page_state, is_pending}
 use Rattle.event_core.specs.Moved.{Moved}
-use Rattle.event_core.specs.Own.{told, ended, after_alloc, after_free, after_write, with_bytes_at, write_if}
+use Rattle.event_core.specs.Own.{told, ended, after_alloc, after_free, after_write, after_map, after_sync, after_unmap, with_bytes_at, write_if}
 use Rattle.event_core.specs.OwnRows.{page_behind}
 use Rattle.event_core.specs.Runs.{state_in}
 use Rattle.event_core.proofs.SoundLemmas.{state_after-append}
 use Rattle.event_laws.proofs.TurnLemmas.{all-map}
-use Rattle.block_laws.specs.BlockScripts.{IsOfBlocks}
+use Rattle.block_laws.specs.Unconverting.{ConvertsNothing}
 use Rattle.block_laws.specs.Guarded.{IsPlainCall, NonePending, StateStands, BlockStands, MemoryStands, IsGuarded, IsClear}
 use Rattle.block_laws.proofs.ListFacts.{all-filter, found-one}
 use Rattle.block_laws.proofs.PageFacts.{KeepsPrivate, private-while, accepted-while, private-accepted, not-pending-later}
@@ -177,24 +178,47 @@ written-keeps boot calls name off more None own are = are
 written-keeps boot calls name off more (Some reply.Done) own are = bytes-keep boot calls (block_named own name) off more own are
 written-keeps boot calls name off more (Some _) own are = are
 
-told-keeps : (boot : Boot) (calls : List ModuleCall) (c : Option Command) (m : Moved) (own : Own) → IfSome c IsOfBlocks → ((block : Block) → m.entry.event ≡ event.Got block → IsGuarded boot calls block) → AreGuarded boot calls own → AreGuarded boot calls (told c m own)
+map-keeps : (boot : Boot) (calls : List ModuleCall) (mapping name : List ℕ) (off : ℕ) (direction : Direction) (e : Event) (own : Own) → AreGuarded boot calls own → AreGuarded boot calls (after_map mapping name off direction e own)
+map-keeps boot calls mapping name off direction (event.Looked area (Some run)) own are = by_held (block_named own name) where
+  by_held : (held : Option Holding) → AreGuarded boot calls (option_map_or (λ (h : Holding). record own { mappings = record { name = mapping; run = run; block = h.block; off = off; direction = direction } ∷ own.mappings }) held own)
+  by_held None = are
+  by_held (Some h) = are
+map-keeps boot calls mapping name off direction (event.Looked area None) own are = are
+map-keeps boot calls mapping name off direction _ own are = are
+
+copied-keeps : (boot : Boot) (calls : List ModuleCall) (held : Option Mapping) (off : ℕ) (more : List ℕ) (own : Own) → AreGuarded boot calls own → AreGuarded boot calls (option_map_or (λ (m : Mapping). with_bytes_at m.block (m.off + off) more own) held own)
+copied-keeps boot calls None off more own are = are
+copied-keeps boot calls (Some m) off more own are = write-keeps boot calls m.block (m.off + off) more own.blocks are
+
+sync-keeps : (boot : Boot) (calls : List ModuleCall) (mapping : List ℕ) (at : ℕ) (more : List ℕ) (e : Event) (own : Own) → AreGuarded boot calls own → AreGuarded boot calls (after_sync mapping at more e own)
+sync-keeps boot calls mapping at more (event.CopiedOut run off len) own are = copied-keeps boot calls (mapping_named own mapping) off more own are
+sync-keeps boot calls mapping at more _ own are = are
+
+unmap-keeps : (boot : Boot) (calls : List ModuleCall) (mapping more : List ℕ) (e : Event) (own : Own) → AreGuarded boot calls own → AreGuarded boot calls (after_unmap mapping more e own)
+unmap-keeps boot calls mapping more (event.Released run true) own are = copied-keeps boot calls (mapping_named own mapping) 0 more own are
+unmap-keeps boot calls mapping more (event.Released run false) own are = are
+unmap-keeps boot calls mapping more _ own are = are
+
+told-keeps : (boot : Boot) (calls : List ModuleCall) (c : Option Command) (m : Moved) (own : Own) → IfSome c ConvertsNothing → ((block : Block) → m.entry.event ≡ event.Got block → IsGuarded boot calls block) → AreGuarded boot calls own → AreGuarded boot calls (told c m own)
 told-keeps boot calls None m own is got are = are
 told-keeps boot calls (Some (command.Alloc name order)) m own is got are = alloc-keeps boot calls name m.entry.event own got are
 told-keeps boot calls (Some (command.Free name)) m own is got are = free-keeps boot calls name m.entry.event own are
-told-keeps boot calls (Some (command.Accept start len)) m own is got are = are
-told-keeps boot calls (Some (command.Query start len)) m own is got are = are
-told-keeps boot calls (Some (command.Read name off len)) m own is got are = are
 told-keeps boot calls (Some (command.Write name off hex)) m own is got are = written-keeps boot calls name off hex m.entry.reply own are
 told-keeps boot calls (Some (command.Fill name off len byte)) m own is got are = written-keeps boot calls name off (repeat len (byte ∷ [])) m.entry.reply own are
-told-keeps boot calls (Some (command.Load name off)) m own is got are = are
-told-keeps boot calls (Some _) m own is got are = absurd is
+told-keeps boot calls (Some (command.Share name)) m own is got are = absurd is
+told-keeps boot calls (Some (command.Private name)) m own is got are = absurd is
+told-keeps boot calls (Some (command.Giveback name)) m own is got are = absurd is
+told-keeps boot calls (Some (command.Map mapping name off len direction mask)) m own is got are = map-keeps boot calls mapping name off direction m.entry.event own are
+told-keeps boot calls (Some (command.SyncCpu mapping off len)) m own is got are = sync-keeps boot calls mapping off m.bytes m.entry.event own are
+told-keeps boot calls (Some (command.Unmap mapping skip)) m own is got are = unmap-keeps boot calls mapping m.bytes m.entry.event own are
+told-keeps boot calls (Some _) m own is got are = are
 
 ended-keeps : (boot : Boot) (calls : List ModuleCall) (r : Option Reply) (own : Own) → AreGuarded boot calls own → AreGuarded boot calls (ended r own)
 ended-keeps boot calls None own are = are
 ended-keeps boot calls (Some r) own are = are
 
 -- one more entry of its own
-pub own-step-keeps : (boot : Boot) (calls : List ModuleCall) (m : Moved) (own : Own) → (c : Option Command) → IfSome c IsOfBlocks → ((block : Block) → m.entry.event ≡ event.Got block → IsGuarded boot calls block) → AreGuarded boot calls own → AreGuarded boot calls (ended m.entry.reply (told c m own))
+pub own-step-keeps : (boot : Boot) (calls : List ModuleCall) (m : Moved) (own : Own) → (c : Option Command) → IfSome c ConvertsNothing → ((block : Block) → m.entry.event ≡ event.Got block → IsGuarded boot calls block) → AreGuarded boot calls own → AreGuarded boot calls (ended m.entry.reply (told c m own))
 own-step-keeps boot calls m own c is got are = ended-keeps boot calls m.entry.reply (told c m own) (told-keeps boot calls c m own is got are)
 
 pub guarded-all-later : (boot : Boot) (calls more : List ModuleCall) (own : Own) → AllByRecursion (λ (call : ModuleCall). call.kind ≡ Accept) more → AreGuarded boot calls own → AreGuarded boot (calls ++ more) own

@@ -1,8 +1,6 @@
 pub mod ListFacts
-pub mod CommandFacts
 pub mod ToldFacts
 pub mod EventFacts
-pub mod MappingFacts
 pub mod ClaimFacts
 pub mod CallFacts
 pub mod PageFacts
@@ -15,7 +13,9 @@ pub mod StandFacts
 pub mod EarlyFacts
 pub mod BootedFacts
 pub mod CutPages
+pub mod GrowFacts
 pub mod HeldFacts
+pub mod MappedFacts
 pub mod TouchFacts
 pub mod HistoryFacts
 pub mod OwnedFacts

@@ -1,5 +1,5 @@
 -- A page has one owner: the blocks that processors have are apart.
-use Rattle.std.proofs.Common.{◌≡◌, ◌≢◌, ℕ, Bool, true, false, ◌&&◌, Option, None, Some, List, [], ◌∷◌, ◌++◌, map, filter, refl, sym, ◌∙◌, ap, subst, inl, inr, cond, eqb-true, eq-eqb, ne_eqb}
+use Rattle.std.proofs.Common.{◌≡◌, ◌≢◌, ℕ, ◌+◌, Bool, true, false, ◌&&◌, Option, None, Some, List, [], ◌∷◌, ◌++◌, map, filter, refl, sym, ◌∙◌, ap, subst, inl, inr, cond, eqb-true, eq-eqb, ne_eqb}
 use Rattle.std.specs.Prelude.{not, find, bytes_eq, ◌==◌, slice_get}
 use Rattle.std.specs.List.{AllByRecursion, repeat}
 use Rattle.std.specs.Option.{option_map_or}
@@ -9,6 +9,7 @@ use Rattle.std.proofs.lemmas.Slice.Eq.{bytes_eq-Decides}
 use mathlib.Core.Path.{fun_ext}
 use Rattle.guest_base.specs.Blocks.{pick}
 use Rattle.guest_base.specs.declared.memory.Block.{Block}
+use Rattle.guest_base.specs.declared.transfer.Direction.{Direction}
 use Rattle.event_core.specs.declared.boot.Boot.{Boot}
 use Rattle.event_core.specs.declared.command.Command.{Command}
 use Rattle.event_core.specs.declared.command.Command.TheVariants as command
@@ -21,19 +22,19 @@ use Rattle.event_core.specs.declared.reply.Reply.TheVariants as reply
 use Rattle.event_core.specs.Absent.{in_block}
 use Rattle.event_core.specs.Blocks.{block_state, is_loose, owned_after, is_owned, free_page}
 use Rattle.event_core.specs.Cut.{cut}
-use Rattle.event_core.specs.Holdings.{Holding, Own, block_named, same_block}
+use Rattle.event_core.specs.Holdings.{Holding, Mapping, Own, block_named, mapping_named, same_block}
 use Rattle.event_core.specs.Legal.{Follows, LegalAfter, Legal, with_bytes, with_moved, moved_after, at_place, place_of, same_place, bare}
 use Rattle.event_core.specs.Moved.{Moved, entries_of}
-use Rattle.event_core.specs.Own.{told, ended, own_step, own_of, script_of, after_alloc, after_free, after_write, with_bytes_at, write_if}
+use Rattle.event_core.specs.Own.{told, ended, own_step, own_of, script_of, after_alloc, after_free, after_write, after_map, after_sync, after_unmap, with_bytes_at, write_if}
 use Rattle.event_core.proofs.SoundLemmas.{same_place-Memory}
 use Rattle.event_laws.proofs.TurnLemmas.{all-map}
 use Rattle.block_laws.specs.Apart.{AreApart, own_after, NamesApart}
-use Rattle.block_laws.specs.BlockScripts.{IsOfBlocks, BlockScripts}
-use Rattle.block_laws.proofs.CommandFacts.{command-of}
-use Rattle.block_laws.proofs.EventFacts.{IsBlockEvent, is-of-blocks, follows-block}
+use Rattle.block_laws.specs.Unconverting.{ConvertsNothing, ConvertNothing}
+use Rattle.event_core.proofs.CommandLemmas.{command-of}
+use Rattle.block_laws.proofs.EventFacts.{IsUnconverting, IsOfArea, is-unconverting}
+use Rattle.block_laws.proofs.GrowFacts.{memory_of, memory-grows, memory-same, own-grows, own-same}
 use Rattle.block_laws.proofs.HeldFacts.{picked-free}
-use Rattle.block_laws.proofs.HistoryFacts.{memory_of, memory-grows, memory-same, own-grows, own-same}
-use Rattle.block_laws.proofs.RowFacts.{RowsHave, follows-row}
+use Rattle.block_laws.proofs.RowFacts.{RowsHave, follows-row, follows-unconverting}
 
 -- ---- blocks that are apart
 
@@ -146,25 +147,19 @@ names-apart name of (g ∷ held) h k differ each first second =
 
 -- ---- what an event changes
 
--- an event that gets and frees nothing
+-- an event that gets, frees and gives back nothing
 abbrev pub IsQuiet : Event → Type 0
-IsQuiet event.Own = Unit {0}
-IsQuiet (event.Claim block units run) = Unit {0}
-IsQuiet (event.Report run calls stopped next) = Unit {0}
-IsQuiet event.NoBlock = Unit {0}
-IsQuiet (event.Asked found) = Unit {0}
-IsQuiet (event.Touched page found) = Unit {0}
-IsQuiet _ = ⊥
+IsQuiet (event.Got block) = ⊥
+IsQuiet (event.Freed block) = ⊥
+IsQuiet (event.ConvertEnd block calls end) = ⊥
+IsQuiet _ = Unit {0}
 
 -- it changes no owner
 quiet-owned : (e : Event) → IsQuiet e → (page : ℕ) (owned : Bool) → owned_after page owned e ≡ owned
-quiet-owned event.Own is page owned = refl
-quiet-owned (event.Claim block units run) is page owned = refl
-quiet-owned (event.Report run calls stopped next) is page owned = refl
-quiet-owned event.NoBlock is page owned = refl
-quiet-owned (event.Asked found) is page owned = refl
-quiet-owned (event.Touched at found) is page owned = refl
-quiet-owned _ is page owned = absurd is
+quiet-owned (event.Got block) is page owned = absurd is
+quiet-owned (event.Freed block) is page owned = absurd is
+quiet-owned (event.ConvertEnd block calls end) is page owned = absurd is
+quiet-owned _ is page owned = refl
 
 -- the blocks of a processor before and after an event of its own
 pub data Change (memory : List Entry) (before after : List Block) (e : Event) : Type 0 where
@@ -317,38 +312,49 @@ written-blocks name off more None own = refl
 written-blocks name off more (Some reply.Done) own = named-blocks (block_named own name) off more own
 written-blocks name off more (Some _) own = refl
 
+map-blocks : (mapping name : List ℕ) (off : ℕ) (direction : Direction) (e : Event) (own : Own) → blocks_in own.blocks ≡ blocks_in (after_map mapping name off direction e own).blocks
+map-blocks mapping name off direction (event.Looked area (Some run)) own = by_held (block_named own name) where
+  by_held : (held : Option Holding) → blocks_in own.blocks ≡ blocks_in (option_map_or (λ (h : Holding). record own { mappings = record { name = mapping; run = run; block = h.block; off = off; direction = direction } ∷ own.mappings }) held own).blocks
+  by_held None = refl
+  by_held (Some h) = refl
+map-blocks mapping name off direction (event.Looked area None) own = refl
+map-blocks mapping name off direction _ own = refl
+
+copied-blocks : (held : Option Mapping) (off : ℕ) (more : List ℕ) (own : Own) → blocks_in own.blocks ≡ blocks_in (option_map_or (λ (m : Mapping). with_bytes_at m.block (m.off + off) more own) held own).blocks
+copied-blocks None off more own = refl
+copied-blocks (Some m) off more own = write-blocks m.block (m.off + off) more own.blocks
+
+sync-blocks : (mapping : List ℕ) (at : ℕ) (more : List ℕ) (e : Event) (own : Own) → blocks_in own.blocks ≡ blocks_in (after_sync mapping at more e own).blocks
+sync-blocks mapping at more (event.CopiedOut run off len) own = copied-blocks (mapping_named own mapping) off more own
+sync-blocks mapping at more _ own = refl
+
+unmap-blocks : (mapping more : List ℕ) (e : Event) (own : Own) → blocks_in own.blocks ≡ blocks_in (after_unmap mapping more e own).blocks
+unmap-blocks mapping more (event.Released run true) own = copied-blocks (mapping_named own mapping) 0 more own
+unmap-blocks mapping more (event.Released run false) own = refl
+unmap-blocks mapping more _ own = refl
+
 ended-blocks : (r : Option Reply) (own : Own) → (ended r own).blocks ≡ own.blocks
 ended-blocks None own = refl
 ended-blocks (Some r) own = refl
 
 module _ (boot : Boot) (memory : List Entry) (own : Own) where
   -- a command that neither allocates nor frees
-  quiet-other : (c : Command) (e : Event) → ((name : List ℕ) (order : ℕ) → c ≡ command.Alloc name order → ⊥) → ((name : List ℕ) → c ≡ command.Free name → ⊥) → IsBlockEvent e → OwnFits boot memory own c e → IsQuiet e
+  quiet-other : (c : Command) (e : Event) → ((name : List ℕ) (order : ℕ) → c ≡ command.Alloc name order → ⊥) → ((name : List ℕ) → c ≡ command.Free name → ⊥) → IsUnconverting e → OwnFits boot memory own c e → IsQuiet e
   quiet-other c (event.Got block) alloc free is fits = absurd (alloc fits.0 fits.1 fits.2)
   quiet-other c (event.Freed block) alloc free is fits = absurd (free fits.0 fits.2)
-  quiet-other c event.Own alloc free is fits = tt
-  quiet-other c (event.Claim block units run) alloc free is fits = tt
-  quiet-other c (event.Report run calls stopped next) alloc free is fits = tt
-  quiet-other c event.NoBlock alloc free is fits = tt
-  quiet-other c (event.Asked found) alloc free is fits = tt
-  quiet-other c (event.Touched at found) alloc free is fits = tt
-  quiet-other c _ alloc free is fits = absurd is
+  quiet-other c (event.ConvertEnd block calls end) alloc free is fits = absurd is
+  quiet-other c _ alloc free is fits = tt
 
-  other-change : (c : Command) (e : Event) (after : List Block) → ((name : List ℕ) (order : ℕ) → c ≡ command.Alloc name order → ⊥) → ((name : List ℕ) → c ≡ command.Free name → ⊥) → IsBlockEvent e → OwnFits boot memory own c e → blocks_in own.blocks ≡ after → Change memory (blocks_in own.blocks) after e
+  other-change : (c : Command) (e : Event) (after : List Block) → ((name : List ℕ) (order : ℕ) → c ≡ command.Alloc name order → ⊥) → ((name : List ℕ) → c ≡ command.Free name → ⊥) → IsUnconverting e → OwnFits boot memory own c e → blocks_in own.blocks ≡ after → Change memory (blocks_in own.blocks) after e
   other-change c e after alloc free is fits same = Same same (quiet-other c e alloc free is fits)
 
-  alloc-change : (name : List ℕ) (order : ℕ) (e : Event) → IsBlockEvent e → OwnFits boot memory own (command.Alloc name order) e → Change memory (blocks_in own.blocks) (blocks_in (after_alloc name e own).blocks) e
+  alloc-change : (name : List ℕ) (order : ℕ) (e : Event) → IsUnconverting e → OwnFits boot memory own (command.Alloc name order) e → Change memory (blocks_in own.blocks) (blocks_in (after_alloc name e own).blocks) e
   alloc-change name order (event.Got block) is fits = Gets block refl refl (λ page inside. free-unowned boot memory page (picked-free (free_page boot memory) fits.1 block fits.3 page inside))
   alloc-change name order (event.Freed block) is fits = let no = fits.2 in cc
-  alloc-change name order event.Own is fits = Same refl tt
-  alloc-change name order (event.Claim block units run) is fits = Same refl tt
-  alloc-change name order (event.Report run calls stopped next) is fits = Same refl tt
-  alloc-change name order event.NoBlock is fits = Same refl tt
-  alloc-change name order (event.Asked found) is fits = Same refl tt
-  alloc-change name order (event.Touched at found) is fits = Same refl tt
-  alloc-change name order _ is fits = absurd is
+  alloc-change name order (event.ConvertEnd block calls end) is fits = absurd is
+  alloc-change name order _ is fits = Same refl tt
 
-  free-change : (name : List ℕ) (e : Event) → IsBlockEvent e → OwnFits boot memory own (command.Free name) e → Change memory (blocks_in own.blocks) (blocks_in (after_free name e own).blocks) e
+  free-change : (name : List ℕ) (e : Event) → IsUnconverting e → OwnFits boot memory own (command.Free name) e → Change memory (blocks_in own.blocks) (blocks_in (after_free name e own).blocks) e
   free-change name (event.Freed block) is fits =
       let names : name ≡ fits.0 = free-name name fits.0 fits.2 in
       Frees own.blocks name fits.1 (ap event.Freed (sym fits.4)) refl refl (ap (block_named own) names ∙ fits.3)
@@ -356,26 +362,24 @@ module _ (boot : Boot) (memory : List Entry) (own : Own) where
       free-name : (a b : List ℕ) → command.Free a ≡ command.Free b → a ≡ b
       free-name a b h = cc
   free-change name (event.Got block) is fits = let no = fits.2 in cc
-  free-change name event.Own is fits = Same refl tt
-  free-change name (event.Claim block units run) is fits = Same refl tt
-  free-change name (event.Report run calls stopped next) is fits = Same refl tt
-  free-change name event.NoBlock is fits = Same refl tt
-  free-change name (event.Asked found) is fits = Same refl tt
-  free-change name (event.Touched at found) is fits = Same refl tt
-  free-change name _ is fits = absurd is
+  free-change name (event.ConvertEnd block calls end) is fits = absurd is
+  free-change name _ is fits = Same refl tt
 
-  told-change : (c : Command) (m : Moved) → IsOfBlocks c → IsBlockEvent m.entry.event → OwnFits boot memory own c m.entry.event → Change memory (blocks_in own.blocks) (blocks_in (told (Some c) m own).blocks) m.entry.event
+  told-change : (c : Command) (m : Moved) → ConvertsNothing c → IsUnconverting m.entry.event → OwnFits boot memory own c m.entry.event → Change memory (blocks_in own.blocks) (blocks_in (told (Some c) m own).blocks) m.entry.event
   told-change (command.Alloc name order) m is at fits = alloc-change name order m.entry.event at fits
   told-change (command.Free name) m is at fits = free-change name m.entry.event at fits
-  told-change (command.Accept start len) m is at fits = other-change (command.Accept start len) m.entry.event (blocks_in own.blocks) (λ n o no. cc) (λ n no. cc) at fits refl
-  told-change (command.Query start len) m is at fits = other-change (command.Query start len) m.entry.event (blocks_in own.blocks) (λ n o no. cc) (λ n no. cc) at fits refl
-  told-change (command.Read name off len) m is at fits = other-change (command.Read name off len) m.entry.event (blocks_in own.blocks) (λ n o no. cc) (λ n no. cc) at fits refl
   told-change (command.Write name off hex) m is at fits = other-change (command.Write name off hex) m.entry.event _ (λ n o no. cc) (λ n no. cc) at fits (written-blocks name off hex m.entry.reply own)
   told-change (command.Fill name off len byte) m is at fits = other-change (command.Fill name off len byte) m.entry.event _ (λ n o no. cc) (λ n no. cc) at fits (written-blocks name off (repeat len (byte ∷ [])) m.entry.reply own)
-  told-change (command.Load name off) m is at fits = other-change (command.Load name off) m.entry.event (blocks_in own.blocks) (λ n o no. cc) (λ n no. cc) at fits refl
-  told-change _ m is at fits = absurd is
+  told-change (command.Share name) m is at fits = absurd is
+  told-change (command.Private name) m is at fits = absurd is
+  told-change (command.Giveback name) m is at fits = absurd is
+  told-change (command.Map mapping name off len direction mask) m is at fits =
+      other-change (command.Map mapping name off len direction mask) m.entry.event _ (λ n o no. cc) (λ n no. cc) at fits (map-blocks mapping name off direction m.entry.event own)
+  told-change (command.SyncCpu mapping off len) m is at fits = other-change (command.SyncCpu mapping off len) m.entry.event _ (λ n o no. cc) (λ n no. cc) at fits (sync-blocks mapping off m.bytes m.entry.event own)
+  told-change (command.Unmap mapping skip) m is at fits = other-change (command.Unmap mapping skip) m.entry.event _ (λ n o no. cc) (λ n no. cc) at fits (unmap-blocks mapping m.bytes m.entry.event own)
+  told-change c m is at fits = other-change c m.entry.event (blocks_in own.blocks) (λ n o no. cc) (λ n no. cc) at fits refl
 
-  pub step-change : (script : List Command) (c : Command) (m : Moved) → slice_get script m.entry.cmd ≡ Some c → IsOfBlocks c → IsBlockEvent m.entry.event → OwnFits boot memory own c m.entry.event → Change memory (blocks_in own.blocks) (blocks_in (own_step script own m).blocks) m.entry.event
+  pub step-change : (script : List Command) (c : Command) (m : Moved) → slice_get script m.entry.cmd ≡ Some c → ConvertsNothing c → IsUnconverting m.entry.event → OwnFits boot memory own c m.entry.event → Change memory (blocks_in own.blocks) (blocks_in (own_step script own m).blocks) m.entry.event
   step-change script c m its is at fits =
       let now : blocks_in (own_step script own m).blocks ≡ blocks_in (told (Some c) m own).blocks =
       ap blocks_in (ended-blocks m.entry.reply (told (slice_get script m.entry.cmd) m own)) ∙ ap (λ o. blocks_in (told o m own).blocks) its
@@ -383,6 +387,11 @@ module _ (boot : Boot) (memory : List Entry) (own : Own) where
       subst (λ bs. Change memory (blocks_in own.blocks) bs m.entry.event) (sym now) (told-change c m is at fits)
 
 -- ---- histories
+
+area-own : (boot : Boot) (memory : List Entry) (own : Own) (c : Command) (e : Event) → IsOfArea e → OwnFits boot memory own c e
+area-own boot memory own c (event.Got block) is = absurd is
+area-own boot memory own c (event.Freed block) is = absurd is
+area-own boot memory own c _ is = tt
 
 -- the rows' events are such
 pub own-rows : (boot : Boot) (memory : List Entry) (cpu : ℕ) (own : Own) (c : Command) → RowsHave (OwnFits boot memory own c) boot memory cpu own c
@@ -395,30 +404,31 @@ own-rows boot memory cpu own c = record {
   none = tt;
   freed = λ name h its has. (name, h, its, has, refl);
   touched = λ page found at. tt;
+  area = area-own boot memory own c;
 }
 
 -- the blocks that each processor has after a history
 abbrev blocks_of : List (List Command) → List Moved → ℕ → List Block
 blocks_of scripts history cpu = blocks_in (own_after scripts history cpu).blocks
 
--- an event that isn't the memory's is the processor's own
-pub own-event : (boot : Boot) (e : Event) → IsBlockEvent e → same_place place.Memory (place_of boot e) ≡ false → e ≡ event.Own
-own-event boot event.Own is out = refl
-own-event boot (event.Claim block units run) is out = cc
-own-event boot (event.Report run calls stopped next) is out = cc
-own-event boot (event.Got block) is out = cc
-own-event boot event.NoBlock is out = cc
-own-event boot (event.Freed block) is out = cc
-own-event boot (event.Asked found) is out = cc
-own-event boot (event.Touched page found) is out = cc
-own-event boot _ is out = absurd is
+-- an event that isn't the memory's gets and frees nothing
+pub quiet-elsewhere : (boot : Boot) (e : Event) → IsUnconverting e → same_place place.Memory (place_of boot e) ≡ false → IsQuiet e
+quiet-elsewhere boot (event.Got block) is out = cc
+quiet-elsewhere boot (event.Freed block) is out = cc
+quiet-elsewhere boot (event.ConvertEnd block calls end) is out = absurd is
+quiet-elsewhere boot _ is out = tt
 
-own-changes-none : (memory : List Entry) (before after : List Block) (e : Event) → e ≡ event.Own → Change memory before after e → before ≡ after
-own-changes-none memory before after e is (Same begun quiet) = begun
-own-changes-none memory before after e is (Gets block got now none) = cc
-own-changes-none memory before after e is (Frees held name h freed begun now found) = cc
+quiet-fits : (boot : Boot) (memory : List Entry) (own : Own) (c : Command) (e : Event) → IsQuiet e → OwnFits boot memory own c e
+quiet-fits boot memory own c (event.Got block) is = absurd is
+quiet-fits boot memory own c (event.Freed block) is = absurd is
+quiet-fits boot memory own c _ is = tt
 
-module _ (boot : Boot) (scripts : List (List Command)) (all : BlockScripts scripts) where
+quiet-changes-none : (memory : List Entry) (before after : List Block) (e : Event) → IsQuiet e → Change memory before after e → before ≡ after
+quiet-changes-none memory before after e is (Same begun quiet) = begun
+quiet-changes-none memory before after e is (Gets block got now none) = absurd (subst IsQuiet got is)
+quiet-changes-none memory before after e is (Frees held name h freed begun now found) = absurd (subst IsQuiet freed is)
+
+module _ (boot : Boot) (scripts : List (List Command)) (all : ConvertNothing scripts) where
   module _ (history : List Moved) (entry : Entry) (f : Follows boot scripts history entry) where
     -- the lists of the processors after the entry
     lists-grow : with_list (blocks_of scripts history) entry.cpu.0 (blocks_in (own_step (script_of scripts entry.cpu.0) (own_after scripts history entry.cpu.0) (with_bytes boot scripts history entry)).blocks) ≡ blocks_of scripts (history ++ with_bytes boot scripts history entry ∷ [])
@@ -443,7 +453,7 @@ module _ (boot : Boot) (scripts : List (List Command)) (all : BlockScripts scrip
     change memory fits =
         let found = command-of boot scripts history entry f in
         step-change boot memory (own_after scripts history entry.cpu.0) (script_of scripts entry.cpu.0) found.command (with_bytes boot scripts history entry) found.its
-        (is-of-blocks scripts entry.cpu.0 entry.cmd found.command all found.its) (follows-block boot scripts history entry all f).event fits
+        (is-unconverting scripts entry.cpu.0 entry.cmd found.command all found.its) (follows-unconverting boot scripts history entry all f) fits
 
     owners-follow : OwnersStand (memory_of history) (blocks_of scripts history) → OwnersStand (memory_of (history ++ with_bytes boot scripts history entry ∷ [])) (blocks_of scripts (history ++ with_bytes boot scripts history entry ∷ []))
     owners-follow stands =
@@ -457,9 +467,9 @@ module _ (boot : Boot) (scripts : List (List Command)) (all : BlockScripts scrip
               (subst (OwnersStand (memory_of history ++ (bare moved).entry ∷ [])) lists-grow
               (owners-push (memory_of history) (bare moved).entry (blocks_of scripts history) entry.cpu.0 stands after (change (memory_of history) fits))))
           | inr out ↦
-              (let is = own-event boot entry.event (follows-block boot scripts history entry all f).event (ap (same_place place.Memory) (sym f.over.place) ∙ out) in
-              let fits = subst (OwnFits boot (memory_of history) (own_after scripts history entry.cpu.0) (command-of boot scripts history entry f).command) (sym is) tt in
-              let same : blocks_of scripts history entry.cpu.0 ≡ after = own-changes-none (memory_of history) (blocks_of scripts history entry.cpu.0) after entry.event is (change (memory_of history) fits) in
+              (let is = quiet-elsewhere boot entry.event (follows-unconverting boot scripts history entry all f) (ap (same_place place.Memory) (sym f.over.place) ∙ out) in
+              let fits = quiet-fits boot (memory_of history) (own_after scripts history entry.cpu.0) (command-of boot scripts history entry f).command entry.event is in
+              let same : blocks_of scripts history entry.cpu.0 ≡ after = quiet-changes-none (memory_of history) (blocks_of scripts history entry.cpu.0) after entry.event is (change (memory_of history) fits) in
               let lists : blocks_of scripts history ≡ with_list (blocks_of scripts history) entry.cpu.0 after =
               fun_ext (λ d. at-list (λ bs. blocks_of scripts history d ≡ bs) (blocks_of scripts history) entry.cpu.0 after d (λ here. ap (blocks_of scripts history) (sym here) ∙ same) (λ differ. refl))
               in
@@ -488,7 +498,7 @@ processors-apart scripts history stands cpu other name of h k differ first secon
     find-block (AreApart h.block) of (own_after scripts history other).blocks k
     (find-block (λ b. ApartFrom b (blocks_of scripts history other)) name (own_after scripts history cpu).blocks h (stands.others cpu other differ) first) second
 
-pub blocks-apart : (boot : Boot) (scripts : List (List Command)) (entries : List Entry) → BlockScripts scripts → Legal boot scripts entries → NamesApart scripts (with_moved boot scripts entries)
+pub blocks-apart : (boot : Boot) (scripts : List (List Command)) (entries : List Entry) → ConvertNothing scripts → Legal boot scripts entries → NamesApart scripts (with_moved boot scripts entries)
 blocks-apart boot scripts entries all legal cpu other name of h k differ first second =
     let history = with_moved boot scripts entries in
     let stands = owners-after boot scripts all [] entries (owners-first boot scripts all) legal in

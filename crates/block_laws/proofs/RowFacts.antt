@@ -1,4 +1,4 @@
--- The rows of the memory's steps for commands about ranges and blocks: what holds of the event of each row holds of each step's.
+-- The rows of the steps of commands that convert nothing: what holds of the event of each row holds of each step's.
 use Rattle.std.proofs.Common.{◌≡◌, ℕ, Bool, true, false, Option, None, Some, List, refl, ◌∙◌, ap, subst}
 use Rattle.std.specs.Prelude.{IfSome}
 use Rattle.std.specs.Option.{option_and_then, option_map}
@@ -21,18 +21,18 @@ use Rattle.event_core.specs.Blocks.{lowest_waiting, in_flight_with, free_page, b
 use Rattle.event_core.specs.Bytes.{row_of}
 use Rattle.event_core.specs.Calls.{calls_in}
 use Rattle.event_core.specs.Claims.{Claimed, claim_of, in_the_way}
-use Rattle.event_core.specs.Holdings.{Holding, Own, block_named}
+use Rattle.event_core.specs.Holdings.{Holding, Own, block_named, mapping_named, asks_in, asks_out}
 use Rattle.event_core.specs.Legal.{Follows, at_place}
 use Rattle.event_core.specs.MemoryRows.{claim_event, run_of_claim, next_run}
 use Rattle.event_core.specs.Moved.{Moved, entries_of, made_by}
-use Rattle.event_core.specs.Next.{Step, step_of, unrefused_step, refused_or, replied_by, accept_step, alloc_step, alloc_reply, claim_reply, load_step, stray_step}
+use Rattle.event_core.specs.Next.{Step, step_of, unrefused_step, refused_or, replied_by, accept_step, alloc_step, alloc_reply, claim_reply, load_step, stray_step, copy_step}
 use Rattle.event_core.specs.Own.{own_of, script_of}
 use Rattle.event_core.specs.OwnRows.{is_inside, strayed_bytes, page_behind, found_at}
 use Rattle.event_core.specs.Refusals.{refusal_of}
 use Rattle.event_core.specs.Units.{guarded_units}
-use Rattle.block_laws.specs.BlockScripts.{IsOfBlocks, BlockScripts}
-use Rattle.block_laws.proofs.CommandFacts.{some-same, command-of, step_told}
-use Rattle.block_laws.proofs.EventFacts.{is-of-blocks}
+use Rattle.block_laws.specs.Unconverting.{ConvertsNothing, ConvertNothing}
+use Rattle.event_core.proofs.CommandLemmas.{some-same, command-of, step_told}
+use Rattle.block_laws.proofs.EventFacts.{IsUnconverting, IsOfArea, is-unconverting, area-unconverting}
 
 -- what holds of a step's event
 pub record StepHas (P : Event → Type 0) (step : Option Step) : Type 0 where
@@ -48,6 +48,7 @@ pub record RowsHave (P : Event → Type 0) (boot : Boot) (memory : List Entry) (
   pub none : P event.NoBlock
   pub freed : (name : List ℕ) (h : Holding) → c ≡ command.Free name → block_named own name ≡ Some h → P (event.Freed h.block)
   pub touched : (page : ℕ) (found : Found) → found_at boot memory page ≡ Some found → P (event.Touched (record { 0 = page }) found)
+  pub area : (e : Event) → IsOfArea e → P e
 
 module _ (P : Event → Type 0) where
   no-step : StepHas P None
@@ -105,7 +106,11 @@ module _ (P : Event → Type 0) where
       by_inside true = record { each = rows.quiet }
       by_inside false = by_found (found_at boot memory (page_behind h.block)) refl
 
-  unrefused-row : (boot : Boot) (cpu : ℕ) (own : Own) (there : List Moved) (c : Command) (calls : List ModuleCall) → IsOfBlocks c → RowsHave P boot (entries_of there) cpu own c → StepHas P (unrefused_step boot cpu own there c calls)
+  copy-row : (asked : Bool) (copy : Event) → P event.Own → P copy → StepHas P (copy_step asked copy)
+  copy-row true copy quiet copied = record { each = copied }
+  copy-row false copy quiet copied = record { each = quiet }
+
+  unrefused-row : (boot : Boot) (cpu : ℕ) (own : Own) (there : List Moved) (c : Command) (calls : List ModuleCall) → ConvertsNothing c → RowsHave P boot (entries_of there) cpu own c → StepHas P (unrefused_step boot cpu own there c calls)
   unrefused-row boot cpu own there (command.Alloc name order) calls is rows = alloc-row boot (entries_of there) cpu own (command.Alloc name order) rows name order (claim_of boot (entries_of there) cpu) calls refl refl
   unrefused-row boot cpu own there (command.Free name) calls is rows = held-step _ (block_named own name) (λ h has. record { each = rows.freed name h refl has })
   unrefused-row boot cpu own there (command.Accept start len) calls is rows = accept-row boot (entries_of there) cpu own (command.Accept start len) rows (claim_of boot (entries_of there) cpu) (guarded_units boot start len) calls refl
@@ -114,17 +119,46 @@ module _ (P : Event → Type 0) where
   unrefused-row boot cpu own there (command.Write name off hex) calls is rows = record { each = rows.quiet }
   unrefused-row boot cpu own there (command.Fill name off len byte) calls is rows = record { each = rows.quiet }
   unrefused-row boot cpu own there (command.Load name off) calls is rows = held-step _ (block_named own name) (λ h has. load-row boot (entries_of there) cpu own (command.Load name off) rows h off)
-  unrefused-row boot cpu own there _ calls is rows = absurd is
+  unrefused-row boot cpu own there (command.Share name) calls is rows = absurd is
+  unrefused-row boot cpu own there (command.Private name) calls is rows = absurd is
+  unrefused-row boot cpu own there (command.Giveback name) calls is rows = absurd is
+  unrefused-row boot cpu own there (command.Map mapping name off len direction mask) calls is rows = held-step _ (block_named own name) (λ h has. record { each = rows.area _ tt })
+  unrefused-row boot cpu own there (command.SyncDev mapping off len) calls is rows = held-step _ (mapping_named own mapping) (λ m has. copy-row (asks_in m.direction) (event.CopiedIn m.run off len) rows.quiet (rows.area _ tt))
+  unrefused-row boot cpu own there (command.SyncCpu mapping off len) calls is rows = held-step _ (mapping_named own mapping) (λ m has. copy-row (asks_out m.direction) (event.CopiedOut m.run off len) rows.quiet (rows.area _ tt))
+  unrefused-row boot cpu own there (command.Unmap mapping skip) calls is rows = held-step _ (mapping_named own mapping) (λ m has. record { each = rows.area _ tt })
+  unrefused-row boot cpu own there (command.DRead mapping off len) calls is rows = held-step _ (mapping_named own mapping) (λ m has. record { each = rows.area _ tt })
+  unrefused-row boot cpu own there (command.DWrite mapping off hex) calls is rows = held-step _ (mapping_named own mapping) (λ m has. record { each = rows.area _ tt })
+  unrefused-row boot cpu own there (command.HostRead off len) calls is rows = record { each = rows.area _ tt }
+  unrefused-row boot cpu own there (command.HostWrite off hex) calls is rows = record { each = rows.area _ tt }
 
 -- what holds of each row's event holds of a step's
-pub step-row : (P : Event → Type 0) (boot : Boot) (cpu : ℕ) (own : Own) (there : List Moved) (c : Command) (calls : List ModuleCall) (step : Step) → IsOfBlocks c → RowsHave P boot (entries_of there) cpu own c → step_of boot cpu own there c calls ≡ Some step → P step.event
+pub step-row : (P : Event → Type 0) (boot : Boot) (cpu : ℕ) (own : Own) (there : List Moved) (c : Command) (calls : List ModuleCall) (step : Step) → ConvertsNothing c → RowsHave P boot (entries_of there) cpu own c → step_of boot cpu own there c calls ≡ Some step → P step.event
 step-row P boot cpu own there c calls step is rows made =
     (subst (StepHas P) made (refused-step P (refusal_of boot own c) (unrefused_step boot cpu own there c calls) rows.quiet (unrefused-row P boot cpu own there c calls is rows))).each
 
 -- what holds of each row's event holds of the event that follows
-pub follows-row : (P : Event → Type 0) (boot : Boot) (scripts : List (List Command)) (history : List Moved) (entry : Entry) → BlockScripts scripts → (f : Follows boot scripts history entry)
+pub follows-row : (P : Event → Type 0) (boot : Boot) (scripts : List (List Command)) (history : List Moved) (entry : Entry) → ConvertNothing scripts → (f : Follows boot scripts history entry)
     → RowsHave P boot (entries_of (at_place entry.place history)) entry.cpu.0 (own_of (script_of scripts entry.cpu.0) (made_by entry.cpu.0 history)) (command-of boot scripts history entry f).command → P entry.event
 follows-row P boot scripts history entry all f rows =
     let c = command-of boot scripts history entry f in
     step-row P boot entry.cpu.0 (own_of (script_of scripts entry.cpu.0) (made_by entry.cpu.0 history)) (at_place entry.place history) c.command (calls_in entry.event) (step_told entry)
-    (is-of-blocks scripts entry.cpu.0 entry.cmd c.command all c.its) rows c.step
+    (is-unconverting scripts entry.cpu.0 entry.cmd c.command all c.its) rows c.step
+
+-- such steps convert nothing
+pub unconverting-rows : (boot : Boot) (memory : List Entry) (cpu : ℕ) (own : Own) (c : Command) → RowsHave IsUnconverting boot memory cpu own c
+unconverting-rows boot memory cpu own c = record {
+  quiet = tt;
+  asked = λ found. tt;
+  claimed = λ block units none lowest. tt;
+  reported = λ claim calls is. tt;
+  got = λ name order block its is. tt;
+  none = tt;
+  freed = λ name h its has. tt;
+  touched = λ page found at. tt;
+  area = area-unconverting;
+}
+
+pub follows-unconverting : (boot : Boot) (scripts : List (List Command)) (history : List Moved) (entry : Entry) → ConvertNothing scripts → Follows boot scripts history entry → IsUnconverting entry.event
+follows-unconverting boot scripts history entry all f =
+    follows-row IsUnconverting boot scripts history entry all f
+    (unconverting-rows boot (entries_of (at_place entry.place history)) entry.cpu.0 (own_of (script_of scripts entry.cpu.0) (made_by entry.cpu.0 history)) (command-of boot scripts history entry f).command)

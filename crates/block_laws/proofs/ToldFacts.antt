@@ -1,10 +1,8 @@
 -- Each byte that a reply tells is the one that was last written.
 use Rattle.std.proofs.Common.{◌≡◌, ℕ, Bool, true, false, Option, None, Some, List, [], refl, ◌∙◌, ap, subst}
-use Rattle.std.specs.Prelude.{IfSome}
 use Rattle.std.specs.Option.{option_and_then, option_map}
 use Rattle.event_core.specs.declared.boot.Boot.{Boot}
 use Rattle.event_core.specs.declared.command.Command.{Command}
-use Rattle.event_core.specs.declared.command.Command.TheVariants as command
 use Rattle.event_core.specs.declared.entry.Entry.{Entry}
 use Rattle.event_core.specs.declared.event.Event.{Event}
 use Rattle.event_core.specs.declared.event.Event.TheVariants as event
@@ -15,92 +13,16 @@ use Rattle.event_core.specs.Before.{own_before, place_before, StandsAt}
 use Rattle.event_core.specs.Bytes.{row_of}
 use Rattle.event_core.specs.BytesTold.{BytesTold}
 use Rattle.event_core.specs.Calls.{calls_in}
-use Rattle.event_core.specs.Holdings.{Sharing, PrivateBlock, SharedBlock, HalfBlock, Holding, Mapping, Own, block_named, mapping_named, block_bytes}
+use Rattle.event_core.specs.Holdings.{Holding, Mapping, block_named, mapping_named}
 use Rattle.event_core.specs.Legal.{Legal, with_moved}
 use Rattle.event_core.specs.Moved.{Moved, entries_of}
-use Rattle.event_core.specs.Next.{Step, replied_by, refused_or, unrefused_step, load_step, stray_step, taking_step}
+use Rattle.event_core.specs.Next.{Step, replied_by, unrefused_step, load_step, stray_step, taking_step}
 use Rattle.event_core.specs.OwnRows.{is_inside, strayed_bytes, page_behind, found_at}
 use Rattle.event_core.specs.Pool.{pool_place}
 use Rattle.event_core.specs.PoolBytes.{pool_byte}
-use Rattle.event_core.specs.Refusals.{refuse, unknown_or, unless_private, if_private, past_end, pool_refusal, memory_range_refusal, refusal_of}
-use Rattle.block_laws.proofs.CommandFacts.{step_told, follows-at, step-at}
-
--- ---- refusals
-
--- a reply that tells no bytes, and doesn't say that an area is full
-abbrev pub IsPlain : Reply → Type 0
-IsPlain (reply.Hex bytes) = ⊥
-IsPlain (reply.Loaded bytes found) = ⊥
-IsPlain reply.Full = ⊥
-IsPlain _ = Unit {0}
-
-pub record ArePlain (refusal : Option Reply) : Type 0 where
-  pub plain : IfSome refusal IsPlain
-
-none-plain : ArePlain None
-none-plain = record { plain = tt }
-
-refuse-plain : (r : Reply) (b : Bool) (others : Option Reply) → IsPlain r → ArePlain others → ArePlain (refuse r b others)
-refuse-plain r true others plain rest = record { plain = plain }
-refuse-plain r false others plain rest = rest
-
-unknown-plain : {A : Type 0} (held : Option A) (conditions : A → Option Reply) → ((a : A) → ArePlain (conditions a)) → ArePlain (unknown_or held conditions)
-unknown-plain None conditions each = record { plain = tt }
-unknown-plain (Some a) conditions each = each a
-
-private-plain : (sharing : Sharing) (others : Option Reply) → ArePlain others → ArePlain (unless_private sharing others)
-private-plain PrivateBlock others plain = plain
-private-plain SharedBlock others plain = record { plain = tt }
-private-plain HalfBlock others plain = record { plain = tt }
-
-if-private-plain : (sharing : Sharing) → ArePlain (if_private sharing)
-if-private-plain PrivateBlock = record { plain = tt }
-if-private-plain SharedBlock = none-plain
-if-private-plain HalfBlock = none-plain
-
-past-plain : (size off len : ℕ) → ArePlain (past_end size off len)
-past-plain size off len = refuse-plain reply.Range _ None tt none-plain
-
-range-plain : (start len : ℕ) → ArePlain (memory_range_refusal start len)
-range-plain start len = refuse-plain reply.Zero _ _ tt (refuse-plain reply.Range _ None tt none-plain)
-
-pool-plain : (boot : Boot) (off len : ℕ) → ArePlain (pool_refusal boot off len)
-pool-plain boot off len = refuse-plain reply.Range _ _ tt (refuse-plain reply.Range _ None tt none-plain)
-
--- no refusal tells bytes
-pub refusal-plain : (boot : Boot) (own : Own) (c : Command) → ArePlain (refusal_of boot own c)
-refusal-plain boot own (command.Alloc name order) = refuse-plain reply.Taken _ None tt none-plain
-refusal-plain boot own (command.Free name) = unknown-plain (block_named own name) _ (λ h. private-plain h.sharing _ (refuse-plain reply.Mapped _ None tt none-plain))
-refusal-plain boot own (command.Accept start len) = range-plain start len
-refusal-plain boot own (command.Query start len) = range-plain start len
-refusal-plain boot own (command.Read name off len) = unknown-plain (block_named own name) _ (λ h. private-plain h.sharing _ (refuse-plain reply.Zero _ _ tt (past-plain (block_bytes h.block) off len)))
-refusal-plain boot own (command.Write name off hex) = unknown-plain (block_named own name) _ (λ h. private-plain h.sharing _ (past-plain (block_bytes h.block) off _))
-refusal-plain boot own (command.Fill name off len byte) = unknown-plain (block_named own name) _ (λ h. private-plain h.sharing _ (refuse-plain reply.Zero _ _ tt (past-plain (block_bytes h.block) off len)))
-refusal-plain boot own (command.Load name off) = unknown-plain (block_named own name) _ (λ h. private-plain h.sharing _ (refuse-plain reply.Range _ None tt none-plain))
-refusal-plain boot own (command.Share name) = unknown-plain (block_named own name) _ (λ h. private-plain h.sharing _ (refuse-plain reply.Mapped _ None tt none-plain))
-refusal-plain boot own (command.Private name) = unknown-plain (block_named own name) _ (λ h. if-private-plain h.sharing)
-refusal-plain boot own (command.Giveback name) =
-    unknown-plain (block_named own name) _ (λ h. private-plain h.sharing _ (refuse-plain reply.Mapped _ _ tt (refuse-plain reply.Small _ _ tt (refuse-plain reply.NoUnit _ None tt none-plain))))
-refusal-plain boot own (command.Map mapping name off len direction mask) =
-    refuse-plain reply.Taken _ _ tt
-    (unknown-plain (block_named own name) _
-    (λ h. private-plain h.sharing _
-    (refuse-plain reply.Zero _ _ tt (refuse-plain reply.Range _ _ tt (refuse-plain reply.TooLong _ _ tt (refuse-plain reply.NoPool _ None tt none-plain))))))
-refusal-plain boot own (command.SyncDev mapping off len) = unknown-plain (mapping_named own mapping) _ (λ m. refuse-plain reply.Zero _ _ tt (past-plain m.run.len off len))
-refusal-plain boot own (command.SyncCpu mapping off len) = unknown-plain (mapping_named own mapping) _ (λ m. refuse-plain reply.Zero _ _ tt (past-plain m.run.len off len))
-refusal-plain boot own (command.Unmap mapping skip) = unknown-plain (mapping_named own mapping) _ (λ m. none-plain)
-refusal-plain boot own (command.DRead mapping off len) = unknown-plain (mapping_named own mapping) _ (λ m. refuse-plain reply.Zero _ _ tt (past-plain m.run.len off len))
-refusal-plain boot own (command.DWrite mapping off hex) = unknown-plain (mapping_named own mapping) _ (λ m. past-plain m.run.len off _)
-refusal-plain boot own (command.HostRead off len) = refuse-plain reply.NoPool _ _ tt (refuse-plain reply.Zero _ _ tt (pool-plain boot off len))
-refusal-plain boot own (command.HostWrite off hex) = refuse-plain reply.NoPool _ _ tt (pool-plain boot off _)
-
--- a step whose reply tells bytes isn't refused
-pub not-refused : (refusal : Option Reply) (step : Option Step) (s : Step) (told : Reply) → ArePlain refusal → (IsPlain told → ⊥) → refused_or refusal step ≡ Some s → s.reply ≡ Some told → step ≡ Some s
-not-refused None step s told plain tells is replies = is
-not-refused (Some r) step s told plain tells is replies =
-    let said : Some (Some r) ≡ Some s.reply = ap (option_map (λ (t : Step). t.reply)) is in
-    let same : r ≡ told = cc in
-    absurd (tells (subst IsPlain same plain.plain))
+use Rattle.event_core.specs.Refusals.{refusal_of}
+use Rattle.event_core.proofs.CommandLemmas.{step_told, follows-at, step-at}
+use Rattle.event_core.proofs.RefusalLemmas.{IsRefusal, refusal-is, not-refused}
 
 -- ---- steps that tell bytes
 
@@ -157,14 +79,14 @@ device-told boot there (Some n) off len s bytes m is replies has =
 -- ---- all of them
 
 -- the step of the entry's command, where the reply tells bytes
-unrefused-at : (boot : Boot) (scripts : List (List Command)) (entries before : List Entry) (entry : Entry) (c : Command) (told : Reply) → Legal boot scripts entries → StandsAt scripts entries before entry c → (IsPlain told → ⊥) → entry.reply ≡ Some told
+unrefused-at : (boot : Boot) (scripts : List (List Command)) (entries before : List Entry) (entry : Entry) (c : Command) (told : Reply) → Legal boot scripts entries → StandsAt scripts entries before entry c → (IsRefusal told → ⊥) → entry.reply ≡ Some told
     → unrefused_step boot entry.cpu.0 (own_before boot scripts before entry) (place_before boot scripts before entry) c (calls_in entry.event) ≡ Some (step_told entry)
 unrefused-at boot scripts entries before entry c told legal at tells replies =
     let own = own_before boot scripts before entry in
     let there = place_before boot scripts before entry in
     let P : List Entry → Type 0 = Legal boot scripts in
     let f = follows-at boot scripts [] before entry at.later (subst P at.split legal) in
-    not-refused (refusal_of boot own c) _ (step_told entry) told (refusal-plain boot own c) tells (step-at boot scripts (with_moved boot scripts before) entry c f at.its) replies
+    not-refused (refusal_of boot own c) _ (step_told entry) told (refusal-is boot own c) tells (step-at boot scripts (with_moved boot scripts before) entry c f at.its) replies
 
 pub legal-told : (boot : Boot) (scripts : List (List Command)) (entries : List Entry) → Legal boot scripts entries → BytesTold boot scripts entries
 legal-told boot scripts entries legal = record {

@@ -1,5 +1,3 @@
-use Rattle.std.specs.Prelude.{List}
-use Rattle.std.specs.List.{AllByRecursion}
 use Rattle.event_core.specs.declared.command.Command.{Command}
 use Rattle.event_core.specs.declared.command.Command.TheVariants.{
   Alloc,
@@ -12,7 +10,7 @@ use Rattle.event_core.specs.declared.command.Command.TheVariants.{
   Load,
 }
 
--- Scripts whose commands are about ranges of memory and about blocks alone (own rule).
+-- Commands about ranges of memory and about blocks alone (own rule).
 
 abbrev pub IsOfBlocks : Command → Type 0
 IsOfBlocks (Alloc name order) = Unit {0}
@@ -24,6 +22,3 @@ IsOfBlocks (Write name off hex) = Unit {0}
 IsOfBlocks (Fill name off len byte) = Unit {0}
 IsOfBlocks (Load name off) = Unit {0}
 IsOfBlocks _ = ⊥
-
-abbrev pub BlockScripts : List (List Command) → Type 0
-BlockScripts scripts = AllByRecursion (AllByRecursion IsOfBlocks) scripts

@@ -17,8 +17,8 @@ use Rattle.event_core.specs.MemoryRows.{page_state, is_pending}
 use Rattle.event_core.specs.OwnRows.{page_behind}
 use Rattle.event_core.specs.Units.{unit_first, unit_pages, units_end, bit_after}
 
--- Where pages may be pending, as long as commands are about ranges of memory and about blocks alone
--- (own rule, after unaccepted_memory.c: the guard unit is accepted with a block).
+-- Where pages may be pending, as long as commands convert nothing (own rule, after
+-- unaccepted_memory.c: the guard unit is accepted with a block).
 
 -- a call that accepts, or the one that shares the pool
 abbrev pub IsPlainCall : Boot → ModuleCall → Type 0

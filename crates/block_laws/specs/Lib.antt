@@ -1,4 +1,6 @@
 pub mod Apart
 pub mod BlockScripts
 pub mod Guarded
+pub mod Mapped
 pub mod Runnable
+pub mod Unconverting

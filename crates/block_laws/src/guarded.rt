@@ -15,14 +15,14 @@ ghost use Rattle.event_core.specs.Own.{own_of, script_of};
 ghost use Rattle.event_core.specs.OwnRows.{found_at, page_behind};
 ghost use Rattle.event_laws.specs.Coming.{BootMade};
 ghost use Rattle.block_laws.specs.Apart.{NamesApart};
-ghost use Rattle.block_laws.specs.BlockScripts.{BlockScripts};
 ghost use Rattle.block_laws.specs.Guarded.{IsClear, IsGuarded, MemoryStands};
+ghost use Rattle.block_laws.specs.Unconverting.{ConvertNothing};
 
 /// After the memory's entries of a legal history a pending page lies in a unit with a set bit, in no block that is free or owned and
 /// not behind one, and in an open claim's units only in the open run or behind it.
 pub fn memory_stands()
     ensures { (boot : BootValue) (scripts : List (List CommandValue)) (entries : List EntryValue) →
-        BootMade boot → BlockScripts scripts → Legal boot scripts entries →
+        BootMade boot → ConvertNothing scripts → Legal boot scripts entries →
         MemoryStands boot (entries_of (at_place Memory (with_moved boot scripts entries))) }
 {}
 
@@ -36,7 +36,7 @@ pub fn free_pages_are_clear()
 /// Each page of each block that a processor has is accepted, and the page behind the block isn't pending.
 pub fn held_blocks_are_guarded()
     ensures { (boot : BootValue) (scripts : List (List CommandValue)) (entries : List EntryValue) →
-        BootMade boot → BlockScripts scripts → Legal boot scripts entries → (cpu : ℕ) →
+        BootMade boot → ConvertNothing scripts → Legal boot scripts entries → (cpu : ℕ) →
         AllByRecursion (λ (h : Holding). IsGuarded boot (calls_of boot entries) h.block)
         (own_of (script_of scripts cpu) (made_by cpu (with_moved boot scripts entries))).blocks }
 {}
@@ -51,6 +51,6 @@ pub fn page_behind_is_found()
 /// A page has one owner: the blocks of two processors are apart, and so are those that one has under two names.
 pub fn held_blocks_are_apart()
     ensures { (boot : BootValue) (scripts : List (List CommandValue)) (entries : List EntryValue) →
-        BlockScripts scripts → Legal boot scripts entries →
+        ConvertNothing scripts → Legal boot scripts entries →
         NamesApart scripts (with_moved boot scripts entries) }
 {}

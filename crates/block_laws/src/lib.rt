@@ -1,4 +1,5 @@
-//! Laws over the definitions of histories whose commands are about ranges of memory and about blocks alone.
+//! Laws over the definitions of histories: of those whose commands convert no block between private and shared and give none back,
+//! and some of all.
 #![tactic(auto)]
 
 mod guarded;
@@ -9,6 +10,6 @@ pub use guarded::{
     page_behind_is_found,
 };
 pub use histories::{
-    block_calls_are_sound, block_pages_are_untouched, blocks_have_no_mappings, bytes_are_told,
-    claims_are_apart,
+    block_calls_are_sound, block_pages_are_untouched, bytes_are_told, claims_are_apart,
+    mapped_blocks_are_held,
 };

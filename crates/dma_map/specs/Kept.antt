@@ -1,23 +1,33 @@
-use Rattle.std.specs.Prelude.{ℕ, ◌≡◌, List, [], ◌∷◌, Option, Some, None, if◌then◌else◌}
+use Rattle.std.specs.Prelude.{ℕ, List, Option, find}
 use Rattle.std.specs.Str.{bytes_eq}
-use Rattle.dma_map.specs.declared.kept.Mapping.{Mapping}
+use Rattle.event_core.specs.Holdings.{Mapping}
+use Rattle.dma_map.specs.declared.kept.KeptMapping.{KeptMapping}
 use Rattle.dma_map.specs.declared.kept.Live.{Live}
 
--- what is seen of a processor's mappings: each with its name, and how many more there is room for
+-- A processor's live mappings (own rule).
+
+-- what contracts see of them: each, the newest first, and for how many more there is room
 pub record Kept : Type 0 where
   pub mappings : List Mapping
   pub room : ℕ
 
--- the mapping of a name in a list
-abbrev pub live_in : List Mapping → List ℕ → Option Live
-live_in [] name = None
-live_in (m ∷ ms) name = if bytes_eq m.name name then Some m.live else live_in ms name
+-- a live mapping under a name
+abbrev pub mapping_by : List ℕ → Live → Mapping
+mapping_by name live = record {
+  name = name;
+  run = live.run;
+  block = live.block;
+  off = live.off;
+  direction = live.direction;
+}
 
--- the mapping of a name
-abbrev pub live_at : Kept → List ℕ → Option Live
-live_at kept name = live_in kept.mappings name
+abbrev pub kept_as : KeptMapping → Mapping
+kept_as m = mapping_by m.name m.live
 
--- no name stands twice
-abbrev pub HasEachOnce : List Mapping → Type 0
-HasEachOnce [] = Unit {0}
-HasEachOnce (m ∷ ms) = (live_in ms m.name ≡ None) × HasEachOnce ms
+-- a mapping without its name
+abbrev pub live_of : Mapping → Live
+live_of m = record { run = m.run; block = m.block; off = m.off; direction = m.direction }
+
+-- the newest mapping of a name
+abbrev pub mapping_in : Kept → List ℕ → Option Mapping
+mapping_in kept name = find (λ (m : Mapping). bytes_eq m.name name) kept.mappings

@@ -1,10 +1,15 @@
 //! A processor's live mappings by their names.
-ghost use Rattle.std.specs.Prelude.{◌≡◌, ◌≢◌, ◌<◌, ◌≤◌, ◌+◌, ◌-◌, ◌↔◌, List, ℕ, Some, None, IfNone, OnOk, IsTrue, Any, position};
+ghost use Rattle.std.specs.Prelude.{◌≡◌, ◌<◌, ◌≤◌, ◌+◌, [], ◌∷◌, not, is_some, OnOk, filter, position};
+ghost use Rattle.std.specs.List.{list_any};
+ghost use Rattle.std.specs.Option.{option_map};
 ghost use Rattle.std.specs.Str.{bytes_eq};
+ghost use Rattle.std.specs.VecDeque.{deque_capacity, deque_len};
+ghost use Rattle.event_core.specs.Holdings.{asks_in, asks_out, same_block};
 
 use event_core::Name;
 use guest_base::{Block, Direction, SlotRun};
 use std::alloc::{AllocError, Global};
+use std::collections::VecDeque;
 use std::marker::Model;
 
 /// A live mapping: its slots, the block that it maps, the place of its first byte in the block, in bytes, and its direction.
@@ -16,110 +21,139 @@ pub struct Live {
     pub direction: Direction,
 }
 
-/// A live mapping with its name.
-#[derive(Debug, Drop)]
-pub struct Mapping {
-    pub name: Name,
-    pub live: Live,
+impl Live {
+    /// Whether its direction asks for copies from the block into the pool.
+    pub fn asks_in(&self) -> bool
+        ensures { result ≡ asks_in self.now.direction }
+    {
+        match self.direction {
+            Direction::ToDevice | Direction::Both => true,
+            Direction::FromDevice => false,
+        }
+    }
+
+    /// Whether its direction asks for copies from the pool into the block.
+    pub fn asks_out(&self) -> bool
+        ensures { result ≡ asks_out self.now.direction }
+    {
+        match self.direction {
+            Direction::FromDevice | Direction::Both => true,
+            Direction::ToDevice => false,
+        }
+    }
 }
 
-/// Live mappings, each name at most once.
+/// A live mapping with its name.
+#[derive(Debug, Drop)]
+pub(crate) struct KeptMapping {
+    pub(crate) name: Name,
+    pub(crate) live: Live,
+}
+
+/// Live mappings by their names, the newest first.
 #[derive(Debug, Drop)]
 pub struct Mappings {
-    kept: Vec<Mapping>,
+    kept: VecDeque<KeptMapping>,
 }
 
 impl Model for Mappings {
-    ghost use Rattle.std.specs.Prelude.{◌-◌, vec_len, vec_capacity};
-    ghost use Rattle.dma_map.specs.Kept.{Kept, HasEachOnce};
+    ghost use Rattle.std.specs.Prelude.{◌-◌, map};
+    ghost use Rattle.std.specs.VecDeque.{deque_capacity, deque_len};
+    ghost use Rattle.dma_map.specs.Kept.{Kept, kept_as};
 
     ghost Value = { Kept };
 
     ghost view = { λ m. record {
-      mappings = m.kept.items;
-      room = vec_capacity m.kept - vec_len m.kept;
+      mappings = map kept_as m.kept.items;
+      room = deque_capacity m.kept - deque_len m.kept;
     } };
-
-    ghost invariant = { λ m. HasEachOnce m.kept.items };
 }
 
 impl Mappings {
-    ghost use Rattle.dma_map.specs.Kept.{live_at};
+    ghost use Rattle.dma_map.specs.Kept.{live_of, mapping_by, mapping_in};
 
     /// No mapping, and room for none.
     pub fn new(alloc: Global) -> Mappings
-        ensures { (n : List ℕ) → live_at result n ≡ None }
+        ensures { result.mappings ≡ [] }
     {
         Mappings {
-            kept: Vec::new(alloc),
+            kept: VecDeque::new(alloc),
         }
     }
 
     /// Makes room for one more mapping. `AllocError` is out of memory. Whatever the answer, the mappings stay, and the
     /// room, in mappings, doesn't shrink.
-    pub fn reserve(&mut self, _alloc: Global) -> Result<(), AllocError>
-        ensures same { (n : List ℕ) → live_at self.new n ≡ live_at self.old n }
+    pub fn reserve(&mut self) -> Result<(), AllocError>
         ensures ok { OnOk result (0 < self.new.room) }
+        ensures same { self.new.mappings ≡ self.old.mappings }
         ensures room { self.old.room ≤ self.new.room }
     {
         self.kept.reserve(1)
     }
 
-    /// Keeps a mapping under a name that has none.
+    /// Keeps one more mapping, the newest, under a name. It needs room for one, and can't fail.
     pub fn insert(&mut self, name: Name, live: Live)
-        requires absent { live_at self.old name ≡ None }
-        requires room { 0 < self.old.room }
-        ensures kept { live_at self.new name ≡ Some live }
-        ensures others { (n : List ℕ) → n ≢ name → live_at self.new n ≡ live_at self.old n }
+        requires { 0 < self.old.room }
+        ensures kept { self.new.mappings ≡ mapping_by name live ∷ self.old.mappings }
         ensures room { self.old.room ≤ self.new.room + 1 }
     {
-        self.kept.push_reserved(Mapping { name, live });
+        self.kept.push_front_reserved(KeptMapping { name, live });
     }
 
-    /// The mapping of a name. None exactly where it has none.
+    /// The newest mapping of a name. None exactly where no mapping has it.
     pub fn find(&self, name: &Name) -> Option<Live>
-        ensures { result ≡ live_at self.now name.now }
+        ensures { result ≡ option_map live_of (mapping_in self.now name.now) }
     {
-        let at = place_of(self.kept.as_slice(), name)?;
+        let at = place_of(&self.kept, name)?;
         Some(self.kept[at].live)
     }
 
-    /// Takes the mapping of a name away. None exactly where it has none, and then nothing changes, the room neither.
-    pub fn remove(&mut self, name: &Name) -> Option<Live>
-        ensures found { result ≡ live_at self.old name.now }
-        ensures gone { live_at self.new name.now ≡ None }
-        ensures none { IfNone result (self.new ≡ self.old) }
-        ensures others { (n : List ℕ) → n ≢ name.now
-            → live_at self.new n ≡ live_at self.old n }
+    /// No longer keeps the mappings of a name. Where there is none nothing changes.
+    pub fn remove(&mut self, name: &Name)
+        ensures kept { self.new.mappings
+            ≡ filter (λ m. not (bytes_eq m.name name.now)) self.old.mappings }
         ensures room { self.old.room ≤ self.new.room }
     {
-        let at = place_of(self.kept.as_slice(), name)?;
-        let Mapping { name: _, live } = self.kept.remove(at);
-        Some(live)
+        drop_named(&mut self.kept, name);
     }
 
-    /// Whether some kept mapping is of this block.
+    /// Whether some mapping is of this block.
     pub fn any_in(&self, block: Block) -> bool
-        ensures { IsTrue result
-            ↔ ((n : List ℕ) × (live : _) × (live_at self.now n ≡ Some live)
-            × (live.block ≡ block)) }
+        ensures { result ≡ list_any (λ m. same_block m.block block) self.now.mappings }
     {
-        any_of(self.kept.as_slice(), block)
+        place_in(&self.kept, block).is_some()
     }
 }
 
 /// The place of a name among the mappings. None exactly where no mapping has it.
-fn place_of(kept: &[Mapping], name: &Name) -> Option<usize>
-    ensures { result ≡ position (λ m. bytes_eq m.name name.now) kept.now }
+fn place_of(kept: &VecDeque<KeptMapping>, name: &Name) -> Option<usize>
+    ensures { result ≡ position (λ m. bytes_eq m.name name.now) kept.now.items }
 {
     kept.iter().position(|m| m.name.is(name))
 }
 
-/// Whether a mapping is of this block.
-fn any_of(kept: &[Mapping], block: Block) -> bool
-    ensures { IsTrue result ↔ Any (λ m. m.live.block ≡ block) kept.now }
+/// The place of the first mapping of a block. None exactly where no mapping is of it.
+fn place_in(kept: &VecDeque<KeptMapping>, block: Block) -> Option<usize>
+    ensures { result ≡ position (λ m. same_block m.live.block block) kept.now.items }
 {
-    kept.iter().any(|m| m.live.block == block)
+    kept.iter().position(|m| is_same(m.live.block, block))
+}
+
+/// Whether two blocks are one.
+fn is_same(one: Block, other: Block) -> bool
+    ensures { result ≡ same_block one other }
+{
+    one.first == other.first && one.order == other.order
+}
+
+/// Drops the mappings of a name.
+fn drop_named(kept: &mut VecDeque<KeptMapping>, name: &Name)
+    ensures items { kept.new.items
+        ≡ filter (λ m. not (bytes_eq m.name name.now)) kept.old.items }
+    ensures len { deque_len kept.new ≤ deque_len kept.old }
+    ensures capacity { deque_capacity kept.new ≡ deque_capacity kept.old }
+{
+    kept.retain(|m| !m.name.is(name));
 }
 
 #[cfg(test)]
@@ -144,11 +178,12 @@ mod tests {
             direction: Direction::Both,
         };
         let mut mappings = Mappings::new(rt.alloc());
-        mappings.reserve(rt.alloc())?;
+        mappings.reserve()?;
         mappings.insert(name.copy(), live);
         assert_eq!(rt; mappings.find(&name), Some(live));
         assert!(rt; mappings.any_in(block));
-        assert_eq!(rt; mappings.remove(&name), Some(live));
+        assert!(rt; live.asks_in() && live.asks_out());
+        mappings.remove(&name);
         assert_eq!(rt; mappings.find(&name), None);
         assert!(rt; !mappings.any_in(block));
         Ok(())

@@ -5,6 +5,6 @@ mod kept;
 mod pool;
 mod request;
 
-pub use kept::{Live, Mapping, Mappings};
+pub use kept::{Live, Mappings};
 pub use pool::Layout;
 pub use request::{TooLong, plan};

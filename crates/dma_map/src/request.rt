@@ -1,5 +1,5 @@
 //! What a mapping asks of an area.
-ghost use Rattle.std.specs.Prelude.{◌≡◌, ◌⊎◌, ◌<◌, ◌≤◌, ◌+◌, ◌-◌, ◌*◌, ◌/◌, ◌^◌, ◌==◌, true, false, IfOk, OnErr, bit_and, if◌then◌else◌};
+ghost use Rattle.std.specs.Prelude.{◌≡◌, ◌<◌, ◌≤◌, ◌+◌, ◌-◌, ◌*◌, ◌/◌, ◌^◌, ◌==◌, true, false, IfOk, OnErr, bit_and, if◌then◌else◌};
 ghost use Rattle.guest_base.specs.Requests.{request_of, too_long};
 
 use guest_base::limits::{ADDRESS_END, PAGE_BYTES, SEGMENT_SLOTS, SLOT_BYTES};
@@ -12,15 +12,17 @@ use thiserror::Error;
 pub struct TooLong;
 
 /// What a mapping of `len` bytes from the address `addr` on, which ends at 2^40 at most, asks of an area, where it keeps the
-/// bits of the address that `mask` names, 0 or 4095: its place in the first slot, in bytes, the slots, and where they may begin.
+/// bits of the address that `mask` names: its place in the first slot, in bytes, the slots, and where they may begin.
 /// `TooLong` exactly where these slots, with the one before them in the page, are more than a segment. After Linux's swiotlb.
 pub fn plan(addr: u64, len: u64, mask: u64) -> Result<Request, TooLong>
     requires some { 0 < len }
     requires inside { addr + len ≤ ADDRESS_END }
-    requires mask { (mask ≡ 0) ⊎ (mask ≡ PAGE_BYTES - 1) }
     ensures fits { IfOk result (λ r. too_long addr len mask ≡ false) }
     ensures request { IfOk result (λ r. r ≡ request_of addr len mask) }
     ensures too_long { OnErr result (too_long addr len mask ≡ true) }
+    ensures some { IfOk result (λ r. 0 < r.need) }
+    ensures few { IfOk result (λ r. r.need ≤ SEGMENT_SLOTS) }
+    ensures holds { IfOk result (λ r. r.offset + r.len ≤ SLOT_BYTES * r.need) }
 {
     let kept = addr & mask;
     let offset = kept & (SLOT_BYTES - 1);

@@ -11,3 +11,5 @@ pub mod BlockingLemmas
 pub mod IdleLemmas
 pub mod FrontLemmas
 pub mod CutFacts
+pub mod CommandLemmas
+pub mod RefusalLemmas

@@ -1,5 +1,5 @@
 -- What a port with a gate stands for.
-use Rattle.std.specs.Prelude.{◌≡◌, ◌⊎◌, ℕ, ◌-◌, List, vec_len, vec_capacity}
+use Rattle.std.specs.Prelude.{◌≡◌, ◌⊎◌, ℕ, List}
 use Rattle.guest_base.specs.Counts.{raised_by}
 use Rattle.event_core.specs.declared.module_call.ModuleCall.{ModuleCall}
 use Rattle.event_core.specs.declared.module_call.PortAnswer.{PortAnswer}
@@ -8,7 +8,7 @@ use Rattle.gate_port.specs.declared.gate.GatePort.{GatePort}
 
 -- the calls of the module so far, in order
 abbrev pub calls_made : GatePort → List ModuleCall
-calls_made port = port.calls.items
+calls_made port = port.log.calls
 
 -- the faults so far
 abbrev pub faults_of : GatePort → ℕ
@@ -16,7 +16,7 @@ faults_of port = port.faults
 
 -- how many calls can be made without memory
 abbrev pub room_of : GatePort → ℕ
-room_of port = vec_capacity port.calls - vec_len port.calls
+room_of port = port.log.room
 
 -- at a closed gate the answer is Failed, which is one fault more
 pub record IsClosed (old new : GatePort) (result : PortAnswer) : Type 0 where

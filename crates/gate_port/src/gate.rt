@@ -1,15 +1,13 @@
 //! A port with a gate.
-ghost use Rattle.std.specs.Prelude.{◌≡◌, ◌+◌, ◌<◌, ◌≤◌, ◌⊎◌, [], ◌∷◌, ◌++◌, IfOk, OnOk, vec_len, vec_capacity};
-ghost use Rattle.guest_base.specs.Levels.{level_pages};
+ghost use Rattle.std.specs.Prelude.{◌≡◌, ◌<◌, ◌≤◌, [], IfOk, OnOk};
 ghost use Rattle.guest_base.specs.declared.memory.PageState.TheVariants.{Pending, Accepted, Shared};
 ghost use Rattle.event_core.specs.declared.module_call.CallKind.TheVariants.{Share, Unshare, Give};
-ghost use Rattle.page_module.specs.Spans.{BeginsPending, SpanIs};
-ghost use Rattle.page_module.specs.Modules.{MayAccept, answer_by, accept_call, span_call, AfterCall};
-ghost use Rattle.gate_port.specs.Gate.{calls_made, faults_of, room_of, IsOpen, PassesOrFails};
+ghost use Rattle.page_module.specs.Spans.{SpanIs};
+ghost use Rattle.page_module.specs.Modules.{MayAccept, answer_by, accept_call, span_call, MakesCall};
 
-use event_core::{CallKind, ModuleCall, PortAnswer};
-use guest_base::{Level, Page, PageState, Pages};
-use page_module::{Port, Span};
+use event_core::{CallKind, PortAnswer};
+use guest_base::{Level, Page, PageState};
+use page_module::{CallLog, Port, Span, answer_without_fault};
 use std::alloc::{AllocError, Global};
 use std::sync::Arc;
 use std::sync::atomic::AtomicBool;
@@ -25,7 +23,7 @@ const LOOKS_AT_ONCE: u32 = 1000;
 /// looks for it; once both have come, and in all other calls, no call fails.
 #[derive(Drop)]
 pub struct GatePort {
-    calls: Vec<ModuleCall>,
+    log: CallLog,
     faults: u64,
     /// The looks of an accept call.
     looks: u32,
@@ -59,14 +57,14 @@ impl GatePort {
         let one = Arc::new(alloc, AtomicBool::new(false))?;
         let other = Arc::new(alloc, AtomicBool::new(false))?;
         let first = GatePort {
-            calls: Vec::new(alloc),
+            log: CallLog::new(alloc),
             faults: 0,
             looks,
             here: Arc::try_clone(&one)?,
             there: Arc::try_clone(&other)?,
         };
         let second = GatePort {
-            calls: Vec::new(alloc),
+            log: CallLog::new(alloc),
             faults: 0,
             looks,
             here: other,
@@ -102,57 +100,6 @@ impl GatePort {
             PortAnswer::Failed
         }
     }
-
-    /// Records a call.
-    fn note(&mut self, kind: CallKind, pages: Pages, level: Level, answer: PortAnswer)
-        requires { vec_len self.old.calls < vec_capacity self.old.calls }
-        ensures calls { self.new.calls.items ≡ self.old.calls.items ++ record {
-          kind = kind;
-          first = pages.first;
-          count = pages.count;
-          level = level;
-          answer = answer;
-        } ∷ [] }
-        ensures len { vec_len self.new.calls ≡ vec_len self.old.calls + 1 }
-        ensures capacity { vec_capacity self.old.calls ≤ vec_capacity self.new.calls }
-        ensures faults { self.new.faults ≡ self.old.faults }
-    {
-        let call = ModuleCall {
-            kind,
-            first: pages.first,
-            count: pages.count,
-            level,
-            answer,
-        };
-        self.calls.push_reserved(call);
-    }
-
-    /// The call of a kind for all pages of a span, which makes them have a state.
-    fn call_for_all(&mut self, span: &mut Span, kind: CallKind, state: PageState) -> PortAnswer
-        requires room { 0 < room_of self.old }
-        ensures recorded { calls_made self.new
-            ≡ calls_made self.old ++ span_call kind span.old result ∷ [] }
-        ensures answers { IsOpen self.old self.new PortAnswer.Ok result }
-        ensures after { AfterCall state span.old span.new span.old.ticket.pages.first
-            span.old.ticket.pages.count result }
-        ensures room_used { room_of self.old ≤ room_of self.new + 1 }
-    {
-        let pages = span.pages();
-        span.mark(pages, state);
-        self.note(kind, pages, Level::Small, PortAnswer::Ok);
-        PortAnswer::Ok
-    }
-}
-
-/// The answer to an accept call of `level` that doesn't fail, where the host has mapped at `host`.
-fn answer_without_fault(level: Level, host: Level) -> PortAnswer
-    ensures { result ≡ answer_by level host }
-{
-    if host.pages() < level.pages() {
-        PortAnswer::SizeMismatch
-    } else {
-        PortAnswer::Ok
-    }
 }
 
 impl Port for GatePort {
@@ -174,67 +121,58 @@ impl Port for GatePort {
         ensures made { calls_made self.new ≡ calls_made self.old }
         ensures faults { faults_of self.new ≡ faults_of self.old }
     {
-        self.calls.reserve(calls as usize)
+        self.log.reserve(calls)
     }
 
     fn accept(&mut self, span: &mut Span, at: Page, level: Level, host: Level) -> PortAnswer
         requires room { 0 < room_of self.old }
         requires may { MayAccept span.old at.0 level }
-        ensures recorded { calls_made self.new
-            ≡ calls_made self.old ++ accept_call at.0 level result ∷ [] }
+        ensures made { MakesCall calls_made room_of self.old self.new Accepted span.old span.new
+            (accept_call at.0 level result) }
         ensures answers { PassesOrFails self.old self.new (answer_by level host) result }
         ensures faults_kept { faults_of self.old ≤ faults_of self.new }
-        ensures after { AfterCall Accepted span.old span.new at.0 (level_pages level) result }
-        ensures room_used { room_of self.old ≤ room_of self.new + 1 }
     {
-        let pages = Pages {
-            first: at.0,
-            count: level.pages(),
-        };
         let answer = self.answer(answer_without_fault(level, host));
-        if answer == PortAnswer::Ok {
-            span.mark(pages, PageState::Accepted);
-        }
-        self.note(CallKind::Accept, pages, level, answer);
+        self.log.make_accept(span, at, level, answer);
         answer
     }
 
     fn share(&mut self, span: &mut Span) -> PortAnswer
         requires room { 0 < room_of self.old }
         requires accepted { SpanIs Accepted span.old }
-        ensures recorded { calls_made self.new
-            ≡ calls_made self.old ++ span_call Share span.old result ∷ [] }
+        ensures made { MakesCall calls_made room_of self.old self.new Shared span.old span.new
+            (span_call Share span.old result) }
         ensures answers { IsOpen self.old self.new PortAnswer.Ok result }
-        ensures after { AfterCall Shared span.old span.new span.old.ticket.pages.first
-            span.old.ticket.pages.count result }
-        ensures room_used { room_of self.old ≤ room_of self.new + 1 }
     {
-        self.call_for_all(span, CallKind::Share, PageState::Shared)
+        let answer = PortAnswer::Ok;
+        self.log
+            .make_for_all(span, CallKind::Share, PageState::Shared, answer);
+        answer
     }
 
     fn unshare(&mut self, span: &mut Span) -> PortAnswer
         requires room { 0 < room_of self.old }
         requires shared { SpanIs Shared span.old }
-        ensures recorded { calls_made self.new
-            ≡ calls_made self.old ++ span_call Unshare span.old result ∷ [] }
+        ensures made { MakesCall calls_made room_of self.old self.new Pending span.old span.new
+            (span_call Unshare span.old result) }
         ensures answers { IsOpen self.old self.new PortAnswer.Ok result }
-        ensures after { AfterCall Pending span.old span.new span.old.ticket.pages.first
-            span.old.ticket.pages.count result }
-        ensures room_used { room_of self.old ≤ room_of self.new + 1 }
     {
-        self.call_for_all(span, CallKind::Unshare, PageState::Pending)
+        let answer = PortAnswer::Ok;
+        self.log
+            .make_for_all(span, CallKind::Unshare, PageState::Pending, answer);
+        answer
     }
 
     fn give(&mut self, span: &mut Span) -> PortAnswer
         requires room { 0 < room_of self.old }
         requires accepted { SpanIs Accepted span.old }
-        ensures recorded { calls_made self.new
-            ≡ calls_made self.old ++ span_call Give span.old result ∷ [] }
+        ensures made { MakesCall calls_made room_of self.old self.new Pending span.old span.new
+            (span_call Give span.old result) }
         ensures answers { IsOpen self.old self.new PortAnswer.Ok result }
-        ensures after { AfterCall Pending span.old span.new span.old.ticket.pages.first
-            span.old.ticket.pages.count result }
-        ensures room_used { room_of self.old ≤ room_of self.new + 1 }
     {
-        self.call_for_all(span, CallKind::Give, PageState::Pending)
+        let answer = PortAnswer::Ok;
+        self.log
+            .make_for_all(span, CallKind::Give, PageState::Pending, answer);
+        answer
     }
 }

@@ -1,5 +1,5 @@
 -- The cut of RAM into blocks: the order at a place, the blocks of a range, and the ranges of runs.
-use Rattle.std.proofs.Common.{◌≡◌, ◌≢◌, ℕ, zero, suc, ◌+◌, ◌-◌, ◌^◌, ◌<◌, ◌≤◌, Bool, true, false, Option, None, Some, find, length, List, [], ◌∷◌, get_or, refl, sym, ap, ◌∙◌, arith, inl, inr, eqb-true, ◌==◌}
+use Rattle.std.proofs.Common.{◌≡◌, ◌≢◌, ℕ, zero, suc, ◌+◌, ◌-◌, ◌^◌, ◌<◌, ◌≤◌, Bool, true, false, Option, None, Some, find, length, List, [], ◌∷◌, get_or, refl, sym, ap, ◌∙◌, arith, inl, inr, eqb-true, ◌==◌, ◌&&◌, nat_le, nat_lt}
 use Rattle.std.specs.List.{All, flat_map}
 use Rattle.std.specs.Option.{option_map}
 use Rattle.std.proofs.lemmas.Bool.{cases_Bool, cases_lt}
@@ -10,7 +10,7 @@ use Rattle.guest_base.specs.declared.memory.Pages.{Pages}
 use Rattle.guest_base.specs.declared.memory.Block.{Block}
 use Rattle.guest_base.specs.declared.memory.PageRun.{PageRun}
 use Rattle.guest_base.specs.declared.memory.PageState.{PageState}
-use Rattle.event_core.specs.Cut.{pages_end, joined, ram_ranges, may_stand, order_at, blocks_from, blocks_of}
+use Rattle.event_core.specs.Cut.{pages_end, joined, ram_ranges, pages_between, without_pool, may_stand, order_at, blocks_from, blocks_of}
 use Rattle.event_core.proofs.CutFacts.{order-most, order-fits, blocks-none, blocks-some}
 use Rattle.event_core.specs.Runs.{run_end, run_holds, AreMaximalRuns}
 
@@ -105,15 +105,41 @@ pub ranges-low : (end : ℕ) (runs : List PageRun) → All (λ (run : PageRun). 
 ranges-low end [] each = All-nil (λ (r : Pages). pages_end r ≤ end)
 ranges-low end (run ∷ runs) each = joined-low end run.pages (ram_ranges runs) (All-head (λ (r : PageRun). run_end r ≤ end) run runs each) (ranges-low end runs (All-tail (λ (r : PageRun). run_end r ≤ end) run runs each))
 
-blocks-each : (P : Block → Type 0) (end : ℕ) (runs : List PageRun) → ((range : Pages) → pages_end range ≤ end → All P (blocks_of range)) → All (λ (run : PageRun). run_end run ≤ end) runs → All P (flat_map blocks_of (ram_ranges runs))
-blocks-each P end runs each low = all-flat P blocks_of (ram_ranges runs) (λ k d lt. each (get_or (ram_ranges runs) k d) (ranges-low end runs low k d lt))
+blocks-each : (P : Block → Type 0) (end : ℕ) (ranges : List Pages) → ((range : Pages) → pages_end range ≤ end → All P (blocks_of range)) → All (λ (r : Pages). pages_end r ≤ end) ranges → All P (flat_map blocks_of ranges)
+blocks-each P end ranges each low = all-flat P blocks_of ranges (λ k d lt. each (get_or ranges k d) (low k d lt))
 
--- each block of the cut has an order up to 10, and ends where RAM may end
-pub cut-orders : (end : ℕ) (runs : List PageRun) → All (λ (run : PageRun). run_end run ≤ end) runs → All (λ (b : Block). b.order ≤ 10) (flat_map blocks_of (ram_ranges runs))
-cut-orders end runs low = blocks-each (λ (b : Block). b.order ≤ 10) end runs (blocks-orders end) low
+-- each block has an order up to 10, and ends where the ranges may end
+pub cut-orders : (end : ℕ) (ranges : List Pages) → All (λ (r : Pages). pages_end r ≤ end) ranges → All (λ (b : Block). b.order ≤ 10) (flat_map blocks_of ranges)
+cut-orders end ranges low = blocks-each (λ (b : Block). b.order ≤ 10) end ranges (blocks-orders end) low
 
-pub cut-ends : (end : ℕ) (runs : List PageRun) → All (λ (run : PageRun). run_end run ≤ end) runs → All (λ (b : Block). b.first + 2 ^ b.order ≤ end) (flat_map blocks_of (ram_ranges runs))
-cut-ends end runs low = blocks-each (λ (b : Block). b.first + 2 ^ b.order ≤ end) end runs (blocks-ends end) low
+pub cut-ends : (end : ℕ) (ranges : List Pages) → All (λ (r : Pages). pages_end r ≤ end) ranges → All (λ (b : Block). b.first + 2 ^ b.order ≤ end) (flat_map blocks_of ranges)
+cut-ends end ranges low = blocks-each (λ (b : Block). b.first + 2 ^ b.order ≤ end) end ranges (blocks-ends end) low
+
+-- ---- without the pool
+
+between-low : (end from to : ℕ) → to ≤ end → All (λ (r : Pages). pages_end r ≤ end) (pages_between from to)
+between-low end from to low =
+    elim (cases_Bool (nat_lt from to)) [
+      | inl some ↦
+          (let less : from < to = grind (arith, nat_tests, some) in
+          rw some (All-cons (λ (r : Pages). pages_end r ≤ end) (record { first = from; count = to - from }) [] (omega (arith, less, low)) (All-nil (λ (r : Pages). pages_end r ≤ end))))
+      | inr none ↦ rw none (All-nil (λ (r : Pages). pages_end r ≤ end))
+    ]
+
+without-low : (end : ℕ) (pool : Option Pages) (range : Pages) → pages_end range ≤ end → All (λ (r : Pages). pages_end r ≤ end) (without_pool pool range)
+without-low end None range low = All-cons (λ (r : Pages). pages_end r ≤ end) range [] low (All-nil (λ (r : Pages). pages_end r ≤ end))
+without-low end (Some pool) range low =
+    elim (cases_Bool (nat_le range.first pool.first && nat_le (pages_end pool) (pages_end range))) [
+      | inl holds ↦
+          (let high : pages_end pool ≤ pages_end range = grind (arith, nat_tests, holds) in
+          rw holds (All-append (λ (r : Pages). pages_end r ≤ end) (pages_between range.first pool.first) (pages_between (pages_end pool) (pages_end range))
+          (between-low end range.first pool.first (omega (arith, high, low))) (between-low end (pages_end pool) (pages_end range) low)))
+      | inr apart ↦ rw apart (All-cons (λ (r : Pages). pages_end r ≤ end) range [] low (All-nil (λ (r : Pages). pages_end r ≤ end)))
+    ]
+
+-- what is left of ranges ends where they may end
+pub outside-low : (end : ℕ) (pool : Option Pages) (ranges : List Pages) → All (λ (r : Pages). pages_end r ≤ end) ranges → All (λ (r : Pages). pages_end r ≤ end) (flat_map (without_pool pool) ranges)
+outside-low end pool ranges low = all-flat (λ (r : Pages). pages_end r ≤ end) (without_pool pool) ranges (λ k d lt. without-low end pool (get_or ranges k d) (low k d lt))
 
 -- a list that holds a match isn't searched in vain
 found-at : (test : PageRun → Bool) (runs : List PageRun) (k : ℕ) (d : PageRun) → k < length runs → test (get_or runs k d) ≡ true → find test runs ≢ None

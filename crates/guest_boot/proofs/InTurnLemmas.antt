@@ -1,4 +1,4 @@
-use Rattle.std.proofs.Common.{◌≡◌, ℕ, ◌+◌, ◌<◌, ◌≤◌, Option, None, Some, List, [], ◌∷◌, ◌++◌, refl, sym, ◌∙◌, ap, subst, inl, inr, append_assoc, append-nil, map, length, drop, get_or, add-one, drop-cons}
+use Rattle.std.proofs.Common.{◌≡◌, ◌≢◌, ℕ, ◌+◌, ◌<◌, ◌≤◌, Option, None, Some, List, [], ◌∷◌, ◌++◌, refl, sym, ◌∙◌, ap, subst, inl, inr, append_assoc, append-nil, map, length, drop, get_or, add-one, drop-cons}
 use Rattle.std.specs.Prelude.{Result, Ok, Err, OnOk}
 use Rattle.std.proofs.lemmas.List.{drop_all}
 use Rattle.guest_base.specs.declared.memory.Page.{Page}
@@ -9,7 +9,7 @@ use Rattle.event_core.proofs.FrontLemmas.{front-whole, front-first, turn-exists}
 use Rattle.guest_boot.specs.Booting.{Grew, EndedBy, LeftBy, WorkedOn}
 use Rattle.guest_boot.specs.declared.accept.Kept.{Kept}
 use Rattle.guest_boot.specs.declared.fault.BootFault.{BootFault}
-use Rattle.guest_boot.specs.declared.fault.BootFault.TheVariants.{Module, NoMemory}
+use Rattle.guest_boot.specs.declared.fault.BootFault.TheVariants.{PoolNoRoom, Module, NoMemory}
 
 -- Items that are worked on one after another.
 
@@ -24,13 +24,15 @@ Goes {Item = Item} Part = (before : List ModuleCall) (item : Item) → IsFront (
 -- ---- how the work ended
 
 -- an end, by the page at which the calls stopped
-pub ended-by : {T : Type 0} (r : Result T BootFault) (Part : List ModuleCall → Option Page → Type 0) (now : List ModuleCall) (stop : Option Page) → Part now stop → OnOk r (stop ≡ None) → ((page : Page) → r ≡ Err (Module page) → stop ≡ Some page) → EndedBy r Part now
-ended-by (Ok done) Part now stop part whole stopped = subst (Part now) whole part
-ended-by (Err (Module page)) Part now stop part whole stopped = subst (Part now) (stopped page refl) part
-ended-by (Err NoMemory) Part now stop part whole stopped = front-whole Part now stop part
+pub ended-by : {T : Type 0} (r : Result T BootFault) (Part : List ModuleCall → Option Page → Type 0) (now : List ModuleCall) (stop : Option Page) → Part now stop → OnOk r (stop ≡ None) → ((page : Page) → r ≡ Err (Module page) → stop ≡ Some page) → r ≢ Err PoolNoRoom → EndedBy r Part now
+ended-by (Ok done) Part now stop part whole stopped placed = subst (Part now) whole part
+ended-by (Err PoolNoRoom) Part now stop part whole stopped placed = absurd (placed refl)
+ended-by (Err (Module page)) Part now stop part whole stopped placed = subst (Part now) (stopped page refl) part
+ended-by (Err NoMemory) Part now stop part whole stopped placed = front-whole Part now stop part
 
 -- where a part that leads to a whole was left, the whole was
 pub left-on : (e : BootFault) (Part Whole : List ModuleCall → Option Page → Type 0) (done now : List ModuleCall) → ((calls : List ModuleCall) (stop : Option Page) → Part calls stop → Whole (done ++ calls) stop) → LeftBy e Part now → LeftBy e Whole (done ++ now)
+left-on PoolNoRoom Part Whole done now leads left = left
 left-on (Module page) Part Whole done now leads left = leads now (Some page) left
 left-on NoMemory Part Whole done now leads (later, stop, part) = (later, stop, subst (λ calls. Whole calls stop) (sym (append_assoc done now later)) (leads (now ++ later) stop part))
 
@@ -69,7 +71,8 @@ leads-one Part start made made' all item rest leads (now, is, part) = record {
 }
 
 -- the work on all ends at an item
-at-item : {Item : Type 0} (Part : Parts Item) (made now : List ModuleCall) (item : Item) (rest : List Item) (e : BootFault) → Goes Part → LeftBy e (Part made item) now → LeftBy e (InTurn Part made (item ∷ rest)) now
+pub at-item : {Item : Type 0} (Part : Parts Item) (made now : List ModuleCall) (item : Item) (rest : List Item) (e : BootFault) → Goes Part → LeftBy e (Part made item) now → LeftBy e (InTurn Part made (item ∷ rest)) now
+at-item Part made now item rest PoolNoRoom goes left = left
 at-item Part made now item rest (Module page) goes part = inl (page, part, refl)
 at-item Part made now item rest NoMemory goes front = front-first Part goes made item rest now front
 

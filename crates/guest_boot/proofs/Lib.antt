@@ -3,9 +3,13 @@ pub mod InTurnLemmas
 pub mod RunLemmas
 pub mod SetRunsLemmas
 pub mod CutLemmas
+pub mod PlaceLemmas
+pub mod SlotLemmas
 pub mod EarlyLemmas
 pub mod StartLemmas
 pub mod StageLemmas
+pub mod MarkedLemmas
+pub mod ShareLemmas
 pub mod BootLemmas
 pub mod PutLemmas
 pub mod StoreLemmas

@@ -12,7 +12,7 @@ use Rattle.guest_base.proofs.RangeLemmas.{in_range-past}
 use Rattle.event_core.specs.declared.boot.Boot.{Boot}
 use Rattle.event_core.specs.declared.module_call.ModuleCall.{ModuleCall}
 use Rattle.event_core.specs.Absent.{in_block}
-use Rattle.event_core.specs.Boot.{InTurn, AcceptsBlock}
+use Rattle.event_core.specs.Boot.{InTurn, StagePart, AcceptsBlock, pool_stages}
 use Rattle.event_core.specs.Cut.{cut}
 use Rattle.event_core.specs.Runs.{GoesBefore}
 use Rattle.event_laws.proofs.RiseLemmas.{RiseTo, cut-rises}
@@ -152,8 +152,14 @@ puts-end boot start made all at store past so_far = record {
   has = so_far.has;
 }
 
--- the blocks behind the early pieces
-pub stages-put : {T : Type 0} (r : Result T BootFault) (boot : Boot) (start middle made : List ModuleCall) (pieces : List PageRun) (blocks : List Block) (store : State) → blocks ≡ cut boot
-    → Grew start middle (λ now. InTurn (AcceptsRunPiece boot) start pieces now None) → OnOk r (AllPut boot middle blocks made store) → OnOk r (StagesPut boot start pieces made store)
-stages-put (Ok done) boot start middle made pieces blocks store is early put = record { middle = middle; early = early; blocks = subst (λ bs. AllPut boot middle bs made store) is put }
-stages-put (Err fault) boot start middle made pieces blocks store is early put = tt
+-- the blocks behind the early pieces and the pool
+pub stages-put : {T : Type 0} (r : Result T BootFault) (boot : Boot) (start middle opened made : List ModuleCall) (pieces : List PageRun) (blocks : List Block) (store : State) → blocks ≡ cut boot
+    → Grew start middle (λ now. InTurn (AcceptsRunPiece boot) start pieces now None) → Grew middle opened (λ now. InTurn (StagePart boot) middle (pool_stages boot.pool) now None) → OnOk r (AllPut boot opened blocks made store) → OnOk r (StagesPut boot start pieces made store)
+stages-put (Ok done) boot start middle opened made pieces blocks store is early pool put = record {
+  middle = middle;
+  early = early;
+  opened = opened;
+  pool = pool;
+  blocks = subst (λ bs. AllPut boot opened bs made store) is put;
+}
+stages-put (Err fault) boot start middle opened made pieces blocks store is early pool put = tt

@@ -1,10 +1,13 @@
-use Rattle.std.proofs.Common.{◌≡◌, ℕ, suc, get_or, ◌+◌, ◌*◌, ◌/◌, ◌%◌, ◌^◌, ◌<◌, ◌≤◌, Bool, true, false, ◌&&◌, Option, None, Some, List, [], ◌∷◌, refl, sym, ◌∙◌, ap, subst, inl, inr, arith, length, map}
+use Rattle.std.proofs.Common.{◌≡◌, ℕ, suc, get_or, ◌+◌, ◌*◌, ◌/◌, ◌%◌, ◌^◌, ◌<◌, ◌≤◌, Bool, true, false, ◌&&◌, Option, None, Some, List, [], ◌∷◌, refl, sym, ◌∙◌, ap, subst, inl, inr, arith, length, map, cond, eq-eqb, ne_eqb, ◌-◌}
 use Rattle.std.specs.Prelude.{All, AllPairs, nat_lt, slice_index, ◌==◌}
-use Rattle.std.specs.Int.{bit_at}
+use Rattle.std.specs.Int.{bit_at, IsPowerOfTwo}
 use Rattle.std.specs.List.{AllByRecursion, flat_map}
 use Rattle.std.proofs.lemmas.Bool.{cases_Bool}
 use Rattle.std.proofs.lemmas.List.Elements.{recursion_from_All}
 use Rattle.guest_base.specs.Ranges.{in_range}
+use Rattle.guest_base.specs.Requests.{raised_slots}
+use Rattle.guest_base.proofs.RangeLemmas.{in_range-intro}
+use Rattle.dma_map.specs.declared.pool.Layout.{Layout}
 use Rattle.guest_base.specs.Search.{any_such}
 use Rattle.guest_base.proofs.SearchLemmas.{any_such_is, any_such_none}
 use Rattle.guest_base.specs.declared.memory.Pages.{Pages}
@@ -22,17 +25,20 @@ use Rattle.event_core.specs.Units.{bit_of, bit_after, unit_count, unit_first, un
 use Rattle.event_core.proofs.MapLemmas.{pending_first}
 use Rattle.event_core.proofs.BootFacts.{set-unit, states-low}
 use Rattle.event_core.proofs.EarlyLemmas.{pairs-tail, all-apart, early-held, unaccepted-each, unaccepted-apart}
-use Rattle.event_core.specs.Boot.{Uncalled}
+use Rattle.event_core.specs.Boot.{IsPoolPlace, PoolPlaced, Uncalled}
 use Rattle.page_module.specs.States.{state_in}
 use Rattle.page_module.specs.Tables.{Rising}
 use Rattle.event_core.specs.Table.{Bits}
 use Rattle.unaccepted_bitmap.specs.StubMap.{StubBitmap, EarlyRuns, pending_run}
 use Rattle.memory_core.specs.Bitmaps.{bits_in, SameBits}
 use Rattle.memory_core.specs.Booted.{IsBooted}
-use Rattle.guest_boot.specs.Booting.{StandsAfter, IsEarly}
+use Rattle.guest_boot.specs.Booting.{StandsAfter, IsEarly, LieInMemory}
+use Rattle.guest_boot.specs.Placing.{LayoutIn}
 use Rattle.guest_boot.specs.Starting.{IsFirstBoot, BitsOf, BitmapBy, EarlyRunsBy}
 use Rattle.guest_boot.specs.declared.accept.Kept.{Kept}
 use Rattle.guest_boot.proofs.CutLemmas.{runs-low}
+use Rattle.guest_boot.proofs.PlaceLemmas.{place-is}
+use Rattle.guest_boot.proofs.SlotLemmas.{pages-some}
 use Rattle.guest_boot.proofs.EarlyLemmas.{early-at}
 
 -- What a guest is before boot's first call.
@@ -163,9 +169,32 @@ marked : (map : List Descriptor) (table : Option Bits) (boot : Boot) (o : Option
 marked map None boot o by same = stub-marked map boot o by same
 marked map (Some table) boot o by same = table-marked map boot table (subst (BitsOf boot) by same)
 
-pub uncalled : (map : List Descriptor) (hosts : List HostRun) (table : Option Bits) (areas cpus : ℕ) (ram : List PageRun) (bits : Option Bits) (boot : Boot) → AreMaximalRuns (first_by map table) ram → BitmapBy map table bits → IsFirstBoot hosts areas cpus ram bits boot → Uncalled map hosts table 0 areas cpus boot
-uncalled map hosts table areas cpus ram bits boot maximal by first =
+-- the slots are raised, and the pool stands at its place
+record Placed (slots areas : ℕ) (boot : Boot) : Type 0 where
+  pub raised : boot.slots ≡ cond (slots == 0) 0 (raised_slots slots areas)
+  pub pool : PoolPlaced boot boot.pool
+
+placed : (hosts : List HostRun) (slots areas cpus : ℕ) (ram : List PageRun) (bits : Option Bits) (layout : Option Layout) (boot : Boot) → AllPairs GoesBefore ram → IsPowerOfTwo areas → LayoutIn (ram_ranges ram) slots areas layout → IsFirstBoot hosts areas cpus ram bits layout boot → Placed slots areas boot
+placed hosts slots areas cpus ram bits None boot rise power is first = record {
+  raised = first.slots ∙ sym (ap (λ b. cond b 0 (raised_slots slots areas)) (eq-eqb slots 0 is));
+  pool = subst (PoolPlaced boot) (sym first.pool) first.slots;
+}
+placed hosts slots areas cpus ram bits (Some l) boot rise power is first =
+    let slots_are : boot.slots ≡ raised_slots slots areas = first.slots ∙ is.raised in
+    let some = pages-some slots areas power in
+    let at = place-is boot ram (raised_slots slots areas / 2) l.pool first.ram rise some is.place in
+    record {
+      raised = slots_are ∙ sym (ap (λ b. cond b 0 (raised_slots slots areas)) (ne_eqb slots 0 is.asked));
+      pool = subst (PoolPlaced boot) (sym first.pool) (
+        (λ none. omega (arith, none, slots_are, some)),
+        subst (λ n. IsPoolPlace boot (n / 2) l.pool) (sym slots_are) at,
+      );
+    }
+
+pub uncalled : (map : List Descriptor) (hosts : List HostRun) (table : Option Bits) (slots areas cpus : ℕ) (ram : List PageRun) (bits : Option Bits) (layout : Option Layout) (boot : Boot) → AreMaximalRuns (first_by map table) ram → BitmapBy map table bits → IsPowerOfTwo areas → LayoutIn (ram_ranges ram) slots areas layout → IsFirstBoot hosts areas cpus ram bits layout boot → Uncalled map hosts table slots areas cpus boot
+uncalled map hosts table slots areas cpus ram bits layout boot maximal by power is first =
     let mark = marked map table boot bits by first.bitmap in
+    let at = placed hosts slots areas cpus ram bits layout boot maximal.rise power is first in
     record {
       ram = subst (λ runs. AreMaximalRuns (first_by map table) runs) (sym first.ram) maximal;
       same_hosts = first.same_hosts;
@@ -175,17 +204,22 @@ uncalled map hosts table areas cpus ram bits boot maximal by first =
       bits = mark.bits;
       same_cpus = first.same_cpus;
       same_areas = first.same_areas;
-      raised = first.slots;
-      pool = rw first.pool first.slots;
+      raised = at.raised;
+      pool = at.pool;
     }
 
 -- ---- the stages
 
-no-pool : (ranges : List Pages) → flat_map (without_pool None) ranges ≡ ranges
-no-pool [] = refl
-no-pool (range ∷ ranges) = ap (λ rs. range ∷ rs) (no-pool ranges)
-
-pub cut-is : (boot : Boot) (ram : List PageRun) → boot.pool ≡ None → boot.ram ≡ ram → flat_map blocks_of (ram_ranges ram) ≡ cut boot
+pub cut-is : (boot : Boot) (ram : List PageRun) (pool : Option Pages) → boot.pool ≡ pool → boot.ram ≡ ram → flat_map blocks_of (flat_map (without_pool pool) (ram_ranges ram)) ≡ cut boot
 unfolding cut
-cut-is boot ram none is =
-    ap (λ rs. flat_map blocks_of (ram_ranges rs)) (sym is) ∙ ap (flat_map blocks_of) (sym (no-pool (ram_ranges boot.ram))) ∙ ap (λ p. flat_map blocks_of (flat_map (without_pool p) (ram_ranges boot.ram))) (sym none)
+cut-is boot ram pool own is =
+    ap (λ rs. flat_map blocks_of (flat_map (without_pool pool) (ram_ranges rs))) (sym is)
+    ∙ ap (λ p. flat_map blocks_of (flat_map (without_pool p) (ram_ranges boot.ram))) (sym own)
+
+-- the pages of the pool end within memory
+pub pool-lies : (boot : Boot) (pool : Pages) → IsBooted boot → PoolPlaced boot (Some pool) → 2 ≤ boot.slots → LieInMemory pool
+pool-lies boot pool booted placed some =
+    let count = placed.1.pages in
+    let last : ℕ = pool.first + pool.count - 1 in
+    let is = booted.low last (placed.1.room last (in_range-intro pool.first (boot.slots / 2) last (omega (arith, count, some)) (omega (arith, count, some)))) in
+    record { some = omega (arith, count, some); end = omega (arith, is, count, some) }

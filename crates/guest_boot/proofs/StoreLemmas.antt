@@ -28,7 +28,9 @@ use Rattle.memory_core.specs.KeptBlocks.{BlocksAfter}
 use Rattle.guest_boot.specs.Putting.{PutBlock, PutsBlock, HasPut, StagesPut, waits_then}
 use Rattle.guest_boot.proofs.BootLemmas.{Begins, begins-right, Went}
 use Rattle.guest_boot.proofs.InTurnLemmas.{turn-append, turn-map, turn-same}
-use Rattle.guest_boot.proofs.StageLemmas.{with_calls, part-same, cut-same, early-turn, kept-pieces}
+use Rattle.guest_boot.specs.Booting.{early_stages}
+use Rattle.guest_boot.proofs.StageLemmas.{with_calls, part-same, cut-same, both-stages, early-grew, kept-pieces}
+use Rattle.dma_map.specs.declared.pool.Layout.{Layout}
 
 -- ---- the store by the blocks of the cut
 
@@ -165,13 +167,13 @@ waits-right boot calls done block comes =
       | inr small ↦ ap (λ b. b && waits_after boot done block) small ∙ sym (small-loose (with_calls boot calls) block small)
     ]
 
-module _ {descriptors : List Descriptor} {hosts : List HostRun} {table : Option Bits} {areas cpus : ℕ} {ram : List PageRun} {bits : Option Bits} {pieces : List PageRun} {boot : Boot} (calls made : List ModuleCall) (begin : Begins descriptors hosts table areas cpus ram bits pieces boot) (same : calls ≡ made) (went : Went boot pieces made None) where
+module _ {descriptors : List Descriptor} {hosts : List HostRun} {table : Option Bits} {slots areas cpus : ℕ} {ram : List PageRun} {bits : Option Bits} {pieces : List PageRun} {layout : Option Layout} {boot : Boot} (calls made : List ModuleCall) (begin : Begins descriptors hosts table slots areas cpus ram bits pieces layout boot) (same : calls ≡ made) (went : Went boot pieces made None) where
   pub boot-made : BootMade (with_calls boot calls)
   boot-made = record {
     descriptors = descriptors;
     hosts = hosts;
     table = table;
-    slots = 0;
+    slots = slots;
     areas = areas;
     cpus = cpus;
     rules = begin.rules;
@@ -179,18 +181,18 @@ module _ {descriptors : List Descriptor} {hosts : List HostRun} {table : Option 
     right = begins-right calls made begin same went;
   }
 
-  -- the early pieces come first
-  early-done : (store : State) (s : StagesPut boot [] pieces made store) → InTurn (StagePart (with_calls boot calls)) [] (map Early begin.begins.early.pieces ++ pool_stages boot.pool) s.middle None
+  -- the early pieces come first, and then the pool
+  early-done : (store : State) (s : StagesPut boot [] pieces made store) → InTurn (StagePart (with_calls boot calls)) [] (map Early begin.begins.early.pieces ++ pool_stages boot.pool) s.opened None
   early-done store s =
-      let own : List Stage = map (λ (run : PageRun). Early run.pages) pieces in
-      let stages : own ≡ map Early begin.begins.early.pieces ++ pool_stages boot.pool =
-      ap (map (λ (run : PageRun). Early run.pages)) begin.begins.early.are ∙ kept-pieces begin.begins.early.pieces ∙ sym (append-nil (map Early begin.begins.early.pieces))
-      ∙ ap (λ p. map Early begin.begins.early.pieces ++ pool_stages p) (sym begin.first.pool)
+      let own : List Stage = early_stages pieces ++ pool_stages boot.pool in
+      let same_stages : own ≡ map Early begin.begins.early.pieces ++ pool_stages boot.pool =
+      ap (λ runs. early_stages runs ++ pool_stages boot.pool) begin.begins.early.are ∙ ap (λ stages. stages ++ pool_stages boot.pool) (kept-pieces begin.begins.early.pieces)
       in
+      let grown = both-stages boot [] s.middle s.opened (early_stages pieces) (pool_stages boot.pool) (early-grew boot [] s.middle pieces s.early) s.pool in
       let P : List ModuleCall → Type 0 = λ m. InTurn (StagePart boot) [] own m None in
-      let Q : List Stage → Type 0 = λ xs. InTurn (StagePart boot) [] xs s.middle None in
-      turn-same (StagePart boot) (StagePart (with_calls boot calls)) [] (map Early begin.begins.early.pieces ++ pool_stages boot.pool) s.middle None (part-same boot calls)
-      (subst Q stages (subst P (sym s.early.1) (early-turn boot [] pieces s.early.0 None s.early.2)))
+      let Q : List Stage → Type 0 = λ xs. InTurn (StagePart boot) [] xs s.opened None in
+      turn-same (StagePart boot) (StagePart (with_calls boot calls)) [] (map Early begin.begins.early.pieces ++ pool_stages boot.pool) s.opened None (part-same boot calls)
+      (subst Q same_stages (subst P (sym grown.1) grown.2))
 
   -- boot comes to each block, with the calls done that stand before it
   comes-put : (store : State) (s : StagesPut boot [] pieces made store) (lower higher : List PutBlock) (put : PutBlock) → s.blocks.puts ≡ lower ++ put ∷ higher → put.waits ≡ waits_at_boot (with_calls boot calls) put.block
@@ -198,9 +200,9 @@ module _ {descriptors : List Descriptor} {hosts : List HostRun} {table : Option 
   comes-put store s lower higher put is =
       let now = s.blocks.parts in
       let front : List Stage = map Early begin.begins.early.pieces ++ pool_stages boot.pool in
-      let P : List PutBlock → Type 0 = λ puts. InTurn (PutsBlock boot) s.middle puts now.0 None in
-      let split = turn-split (PutsBlock boot) s.middle lower (put ∷ higher) now.0 (subst P is now.2) in
-      let done : List ModuleCall = s.middle ++ split.first in
+      let P : List PutBlock → Type 0 = λ puts. InTurn (PutsBlock boot) s.opened puts now.0 None in
+      let split = turn-split (PutsBlock boot) s.opened lower (put ∷ higher) now.0 (subst P is now.2) in
+      let done : List ModuleCall = s.opened ++ split.first in
       let all : cut (with_calls boot calls) ≡ blocks_put lower ++ put.block ∷ blocks_put higher =
       sym (cut-same boot calls) ∙ sym s.blocks.are ∙ ap blocks_put is ∙ map-append (λ (p : PutBlock). p.block) lower (put ∷ higher)
       in
@@ -217,8 +219,8 @@ module _ {descriptors : List Descriptor} {hosts : List HostRun} {table : Option 
             ∙ ap (λ stages. front ++ stages) (map-append BlockAccepted (blocks_put lower) (put.block ∷ blocks_put higher))
             ∙ sym (append_assoc front (map BlockAccepted (blocks_put lower)) (BlockAccepted put.block ∷ map BlockAccepted (blocks_put higher)));
         rest = split.second;
-        calls = same ∙ now.1 ∙ ap (λ m. s.middle ++ m) split.is ∙ sym (append_assoc s.middle split.first split.second);
-        did = turn-append (StagePart (with_calls boot calls)) [] front (map BlockAccepted (blocks_put lower)) s.middle split.first None (early-done store s) (stages-put boot calls s.middle lower split.first None split.left);
+        calls = same ∙ now.1 ∙ ap (λ m. s.opened ++ m) split.is ∙ sym (append_assoc s.opened split.first split.second);
+        did = turn-append (StagePart (with_calls boot calls)) [] front (map BlockAccepted (blocks_put lower)) s.opened split.first None (early-done store s) (stages-put boot calls s.opened lower split.first None split.left);
         does = stages-put boot calls done (put ∷ higher) split.second None split.right;
       })
 

@@ -1,4 +1,5 @@
-use Rattle.std.specs.Prelude.{ℕ, List, [], ◌∷◌, ◌++◌, Option, None, Some, Bool, true, false, Result, Ok, Err, OnOk, ◌≡◌, ◌≤◌, map, if◌then◌else◌}
+use Rattle.std.specs.Prelude.{ℕ, List, [], ◌∷◌, ◌++◌, Option, None, Some, Bool, true, false, Result, Ok, Err, OnOk, ◌≡◌, ◌<◌, ◌≤◌, map, if◌then◌else◌}
+use Rattle.guest_base.specs.declared.limits.TheConstants.{PAGE_END}
 use Rattle.guest_base.specs.Counts.{Rose}
 use Rattle.guest_base.specs.Ranges.{in_range}
 use Rattle.guest_base.specs.declared.memory.HostRun.{HostRun}
@@ -6,11 +7,11 @@ use Rattle.guest_base.specs.declared.memory.Page.{Page}
 use Rattle.guest_base.specs.declared.memory.Pages.{Pages}
 use Rattle.guest_base.specs.declared.memory.PageRun.{PageRun}
 use Rattle.guest_base.specs.declared.memory.Units.{Units}
-use Rattle.guest_base.specs.declared.memory.PageState.TheVariants.{Pending}
+use Rattle.guest_base.specs.declared.memory.PageState.TheVariants.{Pending, Accepted}
 use Rattle.event_core.specs.declared.boot.Boot.{Boot}
 use Rattle.event_core.specs.declared.module_call.ModuleCall.{ModuleCall}
-use Rattle.event_core.specs.Boot.{runs_from, IsFront, AcceptsPiece, Stage, Early, BlockAccepted}
-use Rattle.event_core.specs.Cut.{cut}
+use Rattle.event_core.specs.Boot.{runs_from, InTurn, IsFront, AcceptsPiece, Stage, StagePart, Early, PoolAccepted, BlockAccepted, pool_stages}
+use Rattle.event_core.specs.Cut.{cut, pages_end}
 use Rattle.event_core.specs.Calls.{SoundCalls}
 use Rattle.event_core.specs.MemoryRows.{page_state}
 use Rattle.event_core.specs.Runs.{state_in as first_state_of}
@@ -23,7 +24,7 @@ use Rattle.memory_core.specs.Bitmaps.{BitsAfter}
 use Rattle.memory_core.specs.Booted.{MarksArePending}
 use Rattle.guest_boot.specs.declared.accept.Kept.{Kept}
 use Rattle.guest_boot.specs.declared.fault.BootFault.{BootFault}
-use Rattle.guest_boot.specs.declared.fault.BootFault.TheVariants.{Module, NoMemory}
+use Rattle.guest_boot.specs.declared.fault.BootFault.TheVariants.{PoolNoRoom, Module, NoMemory}
 
 -- What is kept of a guest while it boots.
 
@@ -43,8 +44,9 @@ abbrev pub Grew : List ModuleCall → List ModuleCall → (List ModuleCall → T
 Grew before after P = (now : List ModuleCall) × (after ≡ before ++ now) × P now
 
 -- calls of a part of boot that was left early: those up to the page at which it stopped, or where
--- memory ran out a front of them
+-- memory ran out a front of them; the pool has a place before the first call
 abbrev pub LeftBy : BootFault → (List ModuleCall → Option Page → Type 0) → List ModuleCall → Type 0
+LeftBy PoolNoRoom Part now = ⊥
 LeftBy (Module page) Part now = Part now (Some page)
 LeftBy NoMemory Part now = IsFront Part now
 
@@ -71,10 +73,37 @@ abbrev pub AcceptsRunPiece :
     Boot → List ModuleCall → PageRun → List ModuleCall → Option Page → Type 0
 AcceptsRunPiece boot before piece calls stop = AcceptsPiece boot before piece.pages calls stop
 
--- the stages of a boot without a pool, of the early pieces as they are kept
+-- the stages of a boot, of the early pieces as they are kept
+abbrev pub early_stages : List PageRun → List Stage
+early_stages pieces = map (λ (piece : PageRun). Early piece.pages) pieces
+
 abbrev pub stages_by : Boot → List PageRun → List Stage
 stages_by boot pieces =
-    map (λ (piece : PageRun). Early piece.pages) pieces ++ map BlockAccepted (cut boot)
+    early_stages pieces ++ pool_stages boot.pool ++ map BlockAccepted (cut boot)
+
+-- each of the pages is accepted after calls
+abbrev pub AreAccepted : Boot → List ModuleCall → Pages → Type 0
+AreAccepted boot calls pages =
+    (page : ℕ) → in_range pages.first pages.count page ≡ true
+    → page_state boot calls page ≡ Some Accepted
+
+-- the calls that accept the pool's range, behind those before, leave each page of it accepted
+abbrev pub GetsAccepted : Boot → List ModuleCall → Pages → Type 0
+GetsAccepted boot before pool =
+    (now : List ModuleCall) → StagePart boot before (PoolAccepted pool) now None
+    → AreAccepted boot (before ++ now) pool
+
+-- so do those behind the calls for the early pieces
+abbrev pub PoolGetsAccepted : Boot → List PageRun → Type 0
+PoolGetsAccepted boot pieces =
+    (pool : Pages) → boot.pool ≡ Some pool
+    → (early : List ModuleCall) → InTurn (AcceptsRunPiece boot) [] pieces early None
+    → GetsAccepted boot early pool
+
+-- there are such pages, and they end within memory
+pub record LieInMemory (pages : Pages) : Type 0 where
+  pub some : 0 < pages.count
+  pub end : pages_end pages ≤ PAGE_END
 
 -- the runs of units that pass a test, among some
 abbrev pub runs_in : (ℕ → Bool) → Option Units → List Units

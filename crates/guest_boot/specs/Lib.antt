@@ -1,3 +1,5 @@
+pub mod Placing
+pub mod Areas
 pub mod Worlds
 pub mod Booting
 pub mod Starting

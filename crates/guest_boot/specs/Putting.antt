@@ -6,7 +6,7 @@ use Rattle.guest_base.specs.declared.memory.Block.{Block}
 use Rattle.event_core.specs.declared.boot.Boot.{Boot}
 use Rattle.event_core.specs.declared.module_call.ModuleCall.{ModuleCall}
 use Rattle.event_core.specs.Absent.{in_block}
-use Rattle.event_core.specs.Boot.{InTurn, AcceptsBlock}
+use Rattle.event_core.specs.Boot.{InTurn, StagePart, AcceptsBlock, pool_stages}
 use Rattle.event_core.specs.Cut.{cut}
 use Rattle.event_laws.specs.Coming.{waits_after}
 use Rattle.block_allocator.specs.State.{State, is_free, waits}
@@ -47,9 +47,12 @@ pub record AllPut (boot : Boot) (before : List ModuleCall) (blocks : List Block)
   pub parts : Grew before after (λ now. InTurn (PutsBlock boot) before puts now None)
   pub has : HasPut puts store
 
--- Boot accepted the early pieces behind the calls before, and then put the blocks of the cut.
+-- Boot accepted the early pieces behind the calls before, then the pool, which it shared, and then put
+-- the blocks of the cut.
 pub record StagesPut (boot : Boot) (before : List ModuleCall) (pieces : List PageRun)
     (after : List ModuleCall) (store : State) : Type 0 where
   pub middle : List ModuleCall
   pub early : Grew before middle (λ now. InTurn (AcceptsRunPiece boot) before pieces now None)
-  pub blocks : AllPut boot middle (cut boot) after store
+  pub opened : List ModuleCall
+  pub pool : Grew middle opened (λ now. InTurn (StagePart boot) middle (pool_stages boot.pool) now None)
+  pub blocks : AllPut boot opened (cut boot) after store

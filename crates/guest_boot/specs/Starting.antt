@@ -8,7 +8,9 @@ use Rattle.event_core.specs.Given.{first_by, EarlyBy}
 use Rattle.event_core.specs.Runs.{AreMaximalRuns}
 use Rattle.event_core.specs.Stub.{default_unit}
 use Rattle.event_core.specs.Table.{Bits}
+use Rattle.dma_map.specs.declared.pool.Layout.{Layout}
 use Rattle.unaccepted_bitmap.specs.StubMap.{StubBitmap, pending_run}
+use Rattle.guest_boot.specs.Placing.{slots_in, pool_in}
 
 -- What boot makes of a map before its first call.
 
@@ -17,15 +19,16 @@ abbrev pub BitsOf : Boot → Option Bits → Type 0
 BitsOf boot None = (boot.unit ≡ default_unit) × (boot.base ≡ 0) × (boot.bits ≡ [])
 BitsOf boot (Some b) = (boot.unit ≡ b.unit) × (boot.base ≡ b.base) × (boot.bits ≡ b.bits)
 
--- a boot without a pool and without calls, of RAM, a bitmap and the host's records
-pub record IsFirstBoot (hosts : List HostRun) (areas cpus : ℕ) (runs : List PageRun) (bits : Option Bits) (boot : Boot) : Type 0 where
+-- a boot without calls, of RAM, a bitmap, a pool or none, and the host's records
+pub record IsFirstBoot (hosts : List HostRun) (areas cpus : ℕ) (runs : List PageRun)
+    (bits : Option Bits) (layout : Option Layout) (boot : Boot) : Type 0 where
   pub ram : boot.ram ≡ runs
   pub same_hosts : boot.hosts ≡ hosts
   pub bitmap : BitsOf boot bits
   pub same_cpus : boot.cpus ≡ cpus
-  pub slots : boot.slots ≡ 0
+  pub slots : boot.slots ≡ slots_in layout
   pub same_areas : boot.areas ≡ areas
-  pub pool : boot.pool ≡ None
+  pub pool : boot.pool ≡ pool_in layout
   pub calls : boot.calls ≡ []
 
 -- the bitmap is the table, or where none is given the boot stub's

@@ -13,11 +13,11 @@ ghost use Rattle.memory_core.specs.Booted.{IsBooted};
 ghost use Rattle.guest_boot.specs.Booting.{StandsAfter, WorkedOn, FaultsBy, IsEarly, AcceptedOut};
 
 use crate::fault::BootFault;
-use accept_sizes::{CallLog, RunEnd, accept_run, most_calls};
+use accept_sizes::{RunEnd, accept_run, most_calls};
 use event_core::{Boot, Calls, Hosts, ModuleCall};
 use guest_base::{Pages, Units};
 use memory_core::{clear_run, run_pages};
-use page_module::{PageTable, Port, Span};
+use page_module::{CallLog, PageTable, Port, Span};
 use std::alloc::{AllocError, Global};
 use unaccepted_bitmap::Bitmap;
 
@@ -84,6 +84,7 @@ fn keep_calls(
     ensures whole { OnOk result (stopped_at end ≡ None) }
     ensures stopped { (page : PageValue) → result ≡ Err (BootFault.Module page)
         → stopped_at end ≡ Some page }
+    ensures placed { result ≢ Err BootFault.PoolNoRoom }
 {
     if let RunEnd::Stopped(page) = end {
         return Err(BootFault::Module(page));

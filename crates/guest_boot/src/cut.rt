@@ -1,35 +1,17 @@
 //! The cut of RAM into blocks, after the page allocator.
-ghost use Rattle.std.specs.Prelude.{◌≡◌, ◌++◌, ◌+◌, ◌^◌, ◌<◌, ◌≤◌, IfOk, OnOk, All};
+ghost use Rattle.std.specs.Prelude.{◌≡◌, ◌++◌, ◌+◌, ◌^◌, ◌<◌, ◌≤◌, Some, IfOk, IfSome, OnOk, All};
 ghost use Rattle.guest_base.specs.declared.limits.TheConstants.{PAGE_END};
 ghost use Rattle.std.specs.List.{flat_map};
 ghost use Rattle.guest_base.specs.declared.memory.Block.{Block as BlockValue};
-ghost use Rattle.event_core.specs.Cut.{pages_end, joined, ram_ranges, may_stand, order_at, blocks_of};
+ghost use Rattle.event_core.specs.Cut.{pages_end, joined, ram_ranges, pages_between, without_pool, may_stand, order_at, blocks_of};
 ghost use Rattle.event_core.specs.Runs.{run_end};
 
-use event_core::Runs;
 use guest_base::limits::MAX_ORDER;
 use guest_base::{Block, PageRun, Pages};
 use std::alloc::{AllocError, Global};
 
-/// The blocks into which RAM is cut, rising: of each maximal range of RAM pages, whatever their states, at each place the block of
-/// the greatest order up to 10 that may stand there. The runs rise; it fails only where memory runs out.
-pub(crate) fn cut_blocks(alloc: Global, ram: &Runs) -> Result<Vec<Block>, AllocError>
-    requires low { All (λ run. run_end run ≤ PAGE_END) ram.now }
-    ensures blocks { IfOk result (λ blocks.
-        blocks.items ≡ flat_map blocks_of (ram_ranges ram.now)) }
-    ensures orders { IfOk result (λ blocks. All (λ (b : BlockValue). b.order ≤ 10) blocks.items) }
-    ensures ends { IfOk result (λ blocks.
-        All (λ (b : BlockValue). b.first + 2 ^ b.order ≤ PAGE_END) blocks.items) }
-{
-    let mut blocks = Vec::new(alloc);
-    for range in &ranges(alloc, ram.as_slice())? {
-        push_blocks(&mut blocks, *range)?;
-    }
-    Ok(blocks)
-}
-
-/// The maximal ranges of pages of these runs, whatever their states.
-fn ranges(alloc: Global, runs: &[PageRun]) -> Result<Vec<Pages>, AllocError>
+/// The maximal ranges of pages of these runs, whatever their states, rising as the runs do.
+pub(crate) fn ranges(alloc: Global, runs: &[PageRun]) -> Result<Vec<Pages>, AllocError>
     requires { All (λ run. run_end run ≤ PAGE_END) runs.now }
     ensures { IfOk result (λ ranges. ranges.items ≡ ram_ranges runs.now) }
 {
@@ -57,6 +39,86 @@ fn ranges_from(alloc: Global, first: Pages, others: &[PageRun]) -> Result<Vec<Pa
     }
     ranges.push(last)?;
     Ok(ranges)
+}
+
+/// The blocks into which the ranges of RAM are cut, but for the pool, rising: of each range that is left, at each place the block of
+/// the greatest order up to 10 that may stand there. The ranges rise; it fails only where memory runs out.
+pub(crate) fn cut_blocks(
+    alloc: Global,
+    ranges: &[Pages],
+    pool: Option<Pages>,
+) -> Result<Vec<Block>, AllocError>
+    requires low { All (λ range. pages_end range ≤ PAGE_END) ranges.now }
+    requires pool { IfSome pool (λ pool. pages_end pool ≤ PAGE_END) }
+    ensures blocks { IfOk result (λ blocks.
+        blocks.items ≡ flat_map blocks_of (flat_map (without_pool pool) ranges.now)) }
+    ensures orders { IfOk result (λ blocks. All (λ (b : BlockValue). b.order ≤ 10) blocks.items) }
+    ensures ends { IfOk result (λ blocks.
+        All (λ (b : BlockValue). b.first + 2 ^ b.order ≤ PAGE_END) blocks.items) }
+{
+    let mut blocks = Vec::new(alloc);
+    for range in &outside(alloc, ranges, pool)? {
+        push_blocks(&mut blocks, *range)?;
+    }
+    Ok(blocks)
+}
+
+/// What is left of the ranges without the pool.
+fn outside(alloc: Global, ranges: &[Pages], pool: Option<Pages>) -> Result<Vec<Pages>, AllocError>
+    requires low { All (λ range. pages_end range ≤ PAGE_END) ranges.now }
+    requires pool { IfSome pool (λ pool. pages_end pool ≤ PAGE_END) }
+    ensures { IfOk result (λ left. left.items ≡ flat_map (without_pool pool) ranges.now) }
+{
+    let mut left = Vec::new(alloc);
+    for range in ranges {
+        push_outside(&mut left, *range, pool)?;
+    }
+    Ok(left)
+}
+
+/// Adds what is left of a range without the pool at the end.
+fn push_outside(left: &mut Vec<Pages>, range: Pages, pool: Option<Pages>) -> Result<(), AllocError>
+    requires low { pages_end range ≤ PAGE_END }
+    requires pool { IfSome pool (λ pool. pages_end pool ≤ PAGE_END) }
+    ensures { OnOk result (left.new.items ≡ left.old.items ++ without_pool pool range) }
+{
+    match pool {
+        Some(pool) => push_around(left, range, pool),
+        None => {
+            left.push(range)?;
+            Ok(())
+        }
+    }
+}
+
+/// Adds what is left of a range without these pages at the end.
+fn push_around(left: &mut Vec<Pages>, range: Pages, pool: Pages) -> Result<(), AllocError>
+    requires low { pages_end range ≤ PAGE_END }
+    requires pool { pages_end pool ≤ PAGE_END }
+    ensures { OnOk result (left.new.items ≡ left.old.items ++ without_pool (Some pool) range) }
+{
+    let end = range.first + range.count;
+    let pool_end = pool.first + pool.count;
+    if range.first <= pool.first && pool_end <= end {
+        push_between(left, range.first, pool.first)?;
+        push_between(left, pool_end, end)
+    } else {
+        left.push(range)?;
+        Ok(())
+    }
+}
+
+/// Adds the pages from one up to another at the end, where there are any.
+fn push_between(left: &mut Vec<Pages>, from: u64, to: u64) -> Result<(), AllocError>
+    ensures { OnOk result (left.new.items ≡ left.old.items ++ pages_between from to) }
+{
+    if from < to {
+        left.push(Pages {
+            first: from,
+            count: to - from,
+        })?;
+    }
+    Ok(())
 }
 
 /// Adds the blocks of a range at the end.

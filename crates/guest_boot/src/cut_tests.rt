@@ -1,5 +1,4 @@
-use crate::cut::cut_blocks;
-use event_core::Runs;
+use crate::cut::{cut_blocks, ranges};
 use guest_base::{Block, PageRun, PageState, Pages};
 use std::test::Fail;
 
@@ -8,8 +7,8 @@ fn one_page(rt: HostRuntime) -> Result<(), Fail> {
     let alloc = rt.alloc();
     let pages = Pages { first: 7, count: 1 };
     let state = PageState::Pending;
-    let ram = Runs::from_vec(vec![in alloc; PageRun { pages, state }]?);
-    let blocks = cut_blocks(alloc, &ram)?;
+    let ranges = ranges(alloc, &[PageRun { pages, state }])?;
+    let blocks = cut_blocks(alloc, ranges.as_slice(), None)?;
     assert_eq!(rt;
         blocks.as_slice(),
         [Block { first: 7, order: 0 }].as_slice()
@@ -34,8 +33,8 @@ fn joined_ranges(rt: HostRuntime) -> Result<(), Fail> {
         },
         state: PageState::Pending,
     };
-    let ram = Runs::from_vec(vec![in alloc; low, high]?);
-    let blocks = cut_blocks(alloc, &ram)?;
+    let ranges = ranges(alloc, &[low, high])?;
+    let blocks = cut_blocks(alloc, ranges.as_slice(), None)?;
     assert_eq!(rt; blocks.len(), 33);
     for (block, (first, order)) in blocks
         .iter()
@@ -43,5 +42,30 @@ fn joined_ranges(rt: HostRuntime) -> Result<(), Fail> {
     {
         assert_eq!(rt; *block, Block { first, order });
     }
+    Ok(())
+}
+
+#[test]
+fn around_the_pool(rt: HostRuntime) -> Result<(), Fail> {
+    let range = Pages {
+        first: 0x100,
+        count: 0x80,
+    };
+    let pool = Pages {
+        first: 0x120,
+        count: 0x40,
+    };
+    let blocks = cut_blocks(rt.alloc(), &[range], Some(pool))?;
+    let expected = [
+        Block {
+            first: 0x100,
+            order: 5,
+        },
+        Block {
+            first: 0x160,
+            order: 5,
+        },
+    ];
+    assert_eq!(rt; blocks.as_slice(), expected.as_slice());
     Ok(())
 }

@@ -8,7 +8,10 @@ use std::alloc::{AllocError, AllocFailed};
 /// Why boot didn't come to its end.
 #[derive(Clone, Copy, Debug, PartialEq, Eq)]
 pub enum BootFault {
-    /// The acceptance of an early piece or of a block stopped at this page, whose call for 4 KiB the module failed.
+    /// No range of RAM holds the pool. The module wasn't asked.
+    PoolNoRoom,
+    /// The acceptance of an early piece, of the pool or of a block stopped at this page, whose call for 4 KiB the module failed; or
+    /// the module failed to share the pool, which begins at this page.
     Module(Page),
     /// Out of memory.
     NoMemory,

@@ -6,6 +6,8 @@ mod cut;
 #[cfg(test)]
 mod cut_tests;
 mod fault;
+mod place;
+mod share;
 mod stages;
 mod store;
 #[cfg(test)]

@@ -86,7 +86,7 @@ fn runs_of(alloc: Global, bits: &Bitmap, units: Units) -> Result<Vec<Units>, All
 }
 
 /// Accepts the guarded units of `len` bytes from the address `start` on, run by run.
-fn accept_range<P: Port>(
+pub(crate) fn accept_range<P: Port>(
     alloc: Global,
     boot: &Boot,
     kept: &mut Kept,

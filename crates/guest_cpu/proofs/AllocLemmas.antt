@@ -22,25 +22,27 @@ use Rattle.event_core.specs.Own.{own_of}
 use Rattle.event_core.specs.Refusals.{refusal_of}
 use Rattle.memory_core.specs.Looks.{Gets, LookedBy, Wants}
 use Rattle.memory_core.specs.Owners.{is_owner}
+use Rattle.io_areas.specs.Value.{AreaValue}
 use Rattle.memory_core.specs.Value.{MemoryValue}
 use Rattle.memory_core.specs.Waiting.{waiting_units}
 use Rattle.memory_core.specs.declared.memory.Look.{Look}
 use Rattle.memory_core.specs.declared.memory.Look.TheVariants as look
 use Rattle.page_module.specs.Spans.{Taken}
 use Rattle.guest_steps.specs.Seen.{Seen}
+use Rattle.guest_steps.specs.Ground.{ground_of}
 use Rattle.guest_steps.specs.Steps.{IsBlocked, IsIdle, RoomAlone}
 use Rattle.guest_steps.specs.declared.processor.Stepped.{Stepped}
 use Rattle.guest_cpu.specs.Kept.{most_of}
 use Rattle.guest_cpu.specs.Looking.{ComesAgain, DidLook, Ended, LooksFor}
 use Rattle.guest_cpu.specs.Made.{turn_of}
-use Rattle.guest_cpu.specs.Progressing.{Progressed, command_of, moved_in}
+use Rattle.guest_cpu.specs.Progressing.{Progressed, command_of}
 use Rattle.guest_cpu.specs.Standing.{CourseStands, seen_with}
 use Rattle.guest_cpu.specs.Stepping.{AreRunsAmong, ClaimMade, OnlyRoom}
 use Rattle.guest_cpu.proofs.AcceptLemmas.{met-blocks}
 use Rattle.guest_cpu.proofs.ClaimLemmas.{ClaimOver, EndsEither, OpensBy, StepEnds, claim-steps, ends-from, ends-then}
 use Rattle.guest_cpu.proofs.ClaimNextLemmas.{alloc-idle, alloc-next, claims-moves, got-moves, none-moves}
 use Rattle.guest_cpu.proofs.CourseLemmas.{rests-free}
-use Rattle.guest_cpu.proofs.MemoryLemmas.{one-steps}
+use Rattle.guest_cpu.proofs.MemoryLemmas.{one-steps, steps-memory}
 use Rattle.guest_cpu.proofs.RoomAloneLemmas.{room-course}
 
 -- What an allocation makes of a processor that stands, with no claim open.
@@ -75,16 +77,16 @@ flying boot memory cpu is =
 -- ---- the allocation
 
 -- what it is made over
-pub record AllocOver (p q : Progressed) (made_before made : List ModuleCall) (faults_before faults kept : ℕ) (before after : MemoryValue) (name : List ℕ) (order : ℕ) (runs : List Units) (ended : Stepped) : Type 0 where
-  pub stands : CourseStands p made_before made faults_before faults kept before
+pub record AllocOver (p q : Progressed) (made_before made : List ModuleCall) (faults_before faults kept : ℕ) (areas : List AreaValue) (before after : MemoryValue) (name : List ℕ) (order : ℕ) (runs : List Units) (ended : Stepped) : Type 0 where
+  pub stands : CourseStands p made_before made faults_before faults kept (ground_of before areas)
   pub rests : p.out ≡ None
   pub now : command_of p ≡ Some (command.Alloc name order)
-  pub fine : refusal_of p.boot (own_of p.script (moved_in p)) (command.Alloc name order) ≡ None
+  pub fine : refusal_of p.boot (own_of p.script p.moved) (command.Alloc name order) ≡ None
   pub looks : LooksFor p q before after order runs ended
   pub among : AreRunsAmong before (waiting_units before.boot before.entries) runs
   pub owed : sum_by (most_of p.boot) runs ≤ kept
 
-module _ (made_before made : List ModuleCall) (faults_before faults kept : ℕ) (p0 q : Progressed) (before after : MemoryValue) (name : List ℕ) (order : ℕ) (runs : List Units) (ended : Stepped) where
+module _ (made_before made : List ModuleCall) (faults_before faults kept : ℕ) (p0 q : Progressed) (areas : List AreaValue) (before after : MemoryValue) (name : List ℕ) (order : ℕ) (runs : List Units) (ended : Stepped) where
   abbrev p : Progressed
   p = record p0 { boot = before.boot }
 
@@ -95,9 +97,9 @@ module _ (made_before made : List ModuleCall) (faults_before faults kept : ℕ) 
   present = command.Alloc name order
 
   abbrev Either : Type 0
-  Either = EndsEither p q made_before made faults_before faults kept before after ended
+  Either = EndsEither p q made_before made faults_before faults kept areas before after ended
 
-  module _ (h : AllocOver p q made_before made faults_before faults kept before after name order runs ended) where
+  module _ (h : AllocOver p q made_before made faults_before faults kept areas before after name order runs ended) where
     free : claim_of before.boot before.entries p0.number ≡ None
     free = rests-free (see p) before p0.out p0.done h.stands.stands.out h.rests
 
@@ -111,7 +113,7 @@ module _ (made_before made : List ModuleCall) (faults_before faults kept : ℕ) 
         let D : Option Block → Type 0 = λ b. ClaimMade p q before after b (option_and_then (block_units before.boot) b) span runs ended in
         let A : Option Block → Type 0 = λ b. AreRunsAmong before (option_and_then (block_units before.boot) b) runs in
         let it : ClaimMade p q before after (Some block) units span runs ended = subst D wants.lowest did in
-        let over : ClaimOver p q made_before made faults_before faults kept before after (command.Alloc name order) (Some block) units runs span ended = record {
+        let over : ClaimOver p q made_before made faults_before faults kept areas before after (command.Alloc name order) (Some block) units runs span ended = record {
           stands = h.stands;
           rests = h.rests;
           now = h.now;
@@ -124,7 +126,7 @@ module _ (made_before made : List ModuleCall) (faults_before faults kept : ℕ) 
           among = subst A wants.lowest h.among;
           owed = h.owed;
         } in
-        inl (it.is, claim-steps p q made_before made faults_before faults kept before after (command.Alloc name order) (Some block) units runs span ended over)
+        inl (it.is, claim-steps p q made_before made faults_before faults kept areas before after (command.Alloc name order) (Some block) units runs span ended over)
 
     -- it gets a block
     got-by : (block : Block) → Gets before after order block → Ended p q before after (event.Got block) (reply.Addr (PAGE_BYTES * block.first)) ended → Either
@@ -132,7 +134,7 @@ module _ (made_before made : List ModuleCall) (faults_before faults kept : ℕ) 
         let O : Block → Type 0 = λ b. is_owner before.entries p0.number b ≡ false in
         inl (
           did.is,
-          one-steps made_before made faults_before faults p kept before h.stands h.rests q after present (event.Got block) (reply.Addr (PAGE_BYTES * block.first)) h.now did.adds did.same
+          one-steps made_before made faults_before faults p kept areas before h.stands h.rests q after present (event.Got block) (reply.Addr (PAGE_BYTES * block.first)) h.now did.adds did.same (steps-memory (see p) present h.rests h.now h.fine refl)
               (alloc-next (see p) before.entries name order h.now h.fine (event.Got block) free (event-got before.boot before.entries order block gets.picked) tt refl (got-moves block))
               (record { calls = refl; claim = λ boot calls claim. refl }) refl
               (λ got is. (let same : block ≡ got = (let both : event.Got block ≡ event.Got got = is in cc) in subst O same (gets.fresh p0.number))),
@@ -143,7 +145,7 @@ module _ (made_before made : List ModuleCall) (faults_before faults kept : ℕ) 
     none-by wants none did =
         inl (
           did.is,
-          one-steps made_before made faults_before faults p kept before h.stands h.rests q after present event.NoBlock reply.NoBlock h.now did.adds did.same
+          one-steps made_before made faults_before faults p kept areas before h.stands h.rests q after present event.NoBlock reply.NoBlock h.now did.adds did.same (steps-memory (see p) present h.rests h.now h.fine refl)
               (alloc-next (see p) before.entries name order h.now h.fine event.NoBlock free (event-wanted before order None wants ∙ ap without_waiting none) tt refl none-moves)
               (record { calls = refl; claim = λ boot calls claim. refl }) refl
               (λ got is. absurd (let no : event.NoBlock ≡ event.Got got = is in cc)),
@@ -155,7 +157,7 @@ module _ (made_before made : List ModuleCall) (faults_before faults kept : ℕ) 
     comes-again : ComesAgain p q before after ended → IsBlocked (see p) before.entries → Either
     comes-again again blocked = inr (record { is = again.is; course = again.course; memory = again.memory; blocked = blocked })
 
-    ends-by : (looked : Look) → LookedBy before after (turn_of p0.number p0.entries) order looked → DidLook p q before after runs ended looked → Either
+    ends-by : (looked : Look) → LookedBy before after (turn_of p0.number p0.moved) order looked → DidLook p q before after runs ended looked → Either
     ends-by (look.Got block) by did = got-by block by did
     ends-by look.NoBlock by did = none-by by.0 by.1 did
     ends-by look.Cleared by did = made-by by.block None by.wants did (by.free, by.none, λ some. by.fewer)
@@ -177,33 +179,33 @@ module _ (made_before made : List ModuleCall) (faults_before faults kept : ℕ) 
     alloc-at = ends-by h.looks.looked h.looks.by h.looks.did
 
 -- the same, of a processor of the memory's boot
-alloc-ends : (p q : Progressed) (made_before made : List ModuleCall) (faults_before faults kept : ℕ) (before after : MemoryValue) (name : List ℕ) (order : ℕ) (runs : List Units) (ended : Stepped) → AllocOver p q made_before made faults_before faults kept before after name order runs ended → EndsEither p q made_before made faults_before faults kept before after ended
-alloc-ends p q made_before made faults_before faults kept before after name order runs ended h =
-    let T : Boot → Type 0 = λ b. AllocOver (record p { boot = b }) q made_before made faults_before faults kept before after name order runs ended → EndsEither (record p { boot = b }) q made_before made faults_before faults kept before after ended in
-    let here : T before.boot = (λ x. alloc-at made_before made faults_before faults kept p q before after name order runs ended x) in
-    let there : T p.boot = subst T h.stands.stands.same here in
+alloc-ends : (p q : Progressed) (made_before made : List ModuleCall) (faults_before faults kept : ℕ) (areas : List AreaValue) (before after : MemoryValue) (name : List ℕ) (order : ℕ) (runs : List Units) (ended : Stepped) → AllocOver p q made_before made faults_before faults kept areas before after name order runs ended → EndsEither p q made_before made faults_before faults kept areas before after ended
+alloc-ends p q made_before made faults_before faults kept areas before after name order runs ended h =
+    let T : Boot → Type 0 = λ b. AllocOver (record p { boot = b }) q made_before made faults_before faults kept areas before after name order runs ended → EndsEither (record p { boot = b }) q made_before made faults_before faults kept areas before after ended in
+    let here : T before.boot = (λ x. alloc-at made_before made faults_before faults kept p q areas before after name order runs ended x) in
+    let there : T p.boot = subst T h.stands.stands.same.memory here in
     there h
 
 -- with room taken before it, and a port that was asked for room
-pub alloc-all : (made_before made made_then : List ModuleCall) (faults_before faults faults_then kept more : ℕ) (p taken q : Progressed) (before between after : MemoryValue) (name : List ℕ) (order : ℕ) (runs : List Units) (ended : Stepped)
-    → CourseStands p made_before made faults_before faults kept before → OnlyRoom p taken → RoomAlone before between → kept ≤ more → made_then ≡ made → faults_then ≡ faults
-    → p.out ≡ None → command_of p ≡ Some (command.Alloc name order) → refusal_of p.boot (own_of p.script (moved_in p)) (command.Alloc name order) ≡ None
+pub alloc-all : (made_before made made_then : List ModuleCall) (faults_before faults faults_then kept more : ℕ) (p taken q : Progressed) (areas : List AreaValue) (before between after : MemoryValue) (name : List ℕ) (order : ℕ) (runs : List Units) (ended : Stepped)
+    → CourseStands p made_before made faults_before faults kept (ground_of before areas) → OnlyRoom p taken → RoomAlone before between → kept ≤ more → made_then ≡ made → faults_then ≡ faults
+    → p.out ≡ None → command_of p ≡ Some (command.Alloc name order) → refusal_of p.boot (own_of p.script p.moved) (command.Alloc name order) ≡ None
     → LooksFor taken q between after order runs ended → AreRunsAmong between (waiting_units between.boot between.entries) runs → sum_by (most_of between.boot) runs ≤ more
-    → StepEnds p q made_before made made_then faults_before faults faults_then more before after ended
-alloc-all made_before made made_then faults_before faults faults_then kept more p taken q before between after name order runs ended s only alone le same_made same_faults rests now fine looks among owed =
-    let stood = room-course made_before made faults_before faults p taken kept more before between s only alone le in
+    → StepEnds p q made_before made made_then faults_before faults faults_then more areas before after ended
+alloc-all made_before made made_then faults_before faults faults_then kept more p taken q areas before between after name order runs ended s only alone le same_made same_faults rests now fine looks among owed =
+    let stood = room-course made_before made faults_before faults p taken kept more areas before between s only alone le in
     let R : Progressed → Type 0 = λ x. x.out ≡ None in
     let C : Progressed → Type 0 = λ x. command_of x ≡ Some (command.Alloc name order) in
-    let F : Progressed → Type 0 = λ x. refusal_of x.boot (own_of x.script (moved_in x)) (command.Alloc name order) ≡ None in
+    let F : Progressed → Type 0 = λ x. refusal_of x.boot (own_of x.script x.moved) (command.Alloc name order) ≡ None in
     let O : Boot → Type 0 = λ b. sum_by (most_of b) runs ≤ more in
-    let h : AllocOver taken q made_before made faults_before faults more between after name order runs ended = record {
+    let h : AllocOver taken q made_before made faults_before faults more areas between after name order runs ended = record {
       stands = stood;
       rests = subst R (sym only.0) rests;
       now = subst C (sym only.0) now;
       fine = subst F (sym only.0) fine;
       looks = looks;
       among = among;
-      owed = subst O stood.stands.same owed;
+      owed = subst O stood.stands.same.memory owed;
     } in
-    ends-then p q made_before made made_then faults_before faults faults_then more before after ended same_made same_faults
-    (ends-from made_before made faults_before faults more p taken q before between after ended stood only alone (alloc-ends taken q made_before made faults_before faults more between after name order runs ended h))
+    ends-then p q made_before made made_then faults_before faults faults_then more areas before after ended same_made same_faults
+    (ends-from made_before made faults_before faults more p taken q areas before between after ended stood only alone (alloc-ends taken q made_before made faults_before faults more areas between after name order runs ended h))

@@ -25,10 +25,10 @@ use Rattle.event_core.specs.declared.entry.Place.TheVariants as place
 use Rattle.memory_core.specs.UnderLock.{unmoved}
 use Rattle.guest_steps.specs.Seen.{Seen, own_now, present_command}
 use Rattle.guest_steps.specs.Standing.{ClaimsFor}
-use Rattle.guest_steps.specs.Steps.{IsIdle, IsNext}
-use Rattle.guest_steps.proofs.TogetherLemmas.{entries-unmoved}
+use Rattle.guest_steps.specs.Steps.{IsIdle}
+use Rattle.guest_steps.proofs.StepLemmas.{entries-unmoved}
 use Rattle.guest_cpu.specs.Wanting.{is_alloc}
-use Rattle.guest_cpu.proofs.NextLemmas.{MovesNone, entry_of_step, memory-next, next-is, report-moves}
+use Rattle.guest_cpu.proofs.NextLemmas.{MovesNone, NextThere, entry_of_step, memory-next, next-now, report-moves}
 
 -- What the next entry of a processor is that claims units, reports a claim's run, or gets a block.
 
@@ -58,7 +58,7 @@ module _ (c : Seen) (memory : List Entry) (start len : ℕ) (now : present_comma
 
   -- a claim that nothing is in the way of
   pub accept-next : claim_of c.boot memory c.number ≡ None → in_the_way c.boot memory units ≡ None
-      → (let run = run_of_claim c.boot memory units in IsNext c memory (entry_of_step c memory (event.Claim None units run) (claim_reply run)))
+      → (let run = run_of_claim c.boot memory units in NextThere c memory (entry_of_step c memory (event.Claim None units run) (claim_reply run)))
   accept-next free way =
       let run = run_of_claim c.boot memory units in
       let S : List Entry → Option Step = λ es. accept_step c.boot es (claim_of c.boot es c.number) units [] in
@@ -70,12 +70,12 @@ module _ (c : Seen) (memory : List Entry) (start len : ℕ) (now : present_comma
   accept-idle other free way scripts have =
       let S : List Entry → Option Step = λ es. accept_step c.boot es (claim_of c.boot es c.number) units [] in
       ap is_none
-      (next-is c scripts (map unmoved memory) [] (command.Accept start len) have now
+      (next-now c scripts (map unmoved memory) [] (command.Accept start len) have now
       ∙ ap (λ (r : Option Reply). refused_or r (unrefused_step c.boot c.number (own_now c) (map unmoved memory) (command.Accept start len) [])) fine
       ∙ ap S (entries-unmoved memory) ∙ ap (λ (claim : Option Claimed). accept_step c.boot memory claim units []) free ∙ ap (λ (w : Option ℕ). claims (way_event w)) way)
 
   pub accept-report-next : (claim : Claimed) (calls : List ModuleCall) → claim_of c.boot memory c.number ≡ Some claim → AcceptsUnits c.boot (calls_of c.boot memory) claim.run calls
-      → IsNext c memory (entry_of_step c memory (report_event c.boot claim calls) (report_reply (stop_of calls) (next_run c.boot claim (stop_of calls)) (cleared_by c.boot memory claim calls)))
+      → NextThere c memory (entry_of_step c memory (report_event c.boot claim calls) (report_reply (stop_of calls) (next_run c.boot claim (stop_of calls)) (cleared_by c.boot memory claim calls)))
   accept-report-next claim calls has accepts =
       let S : List Entry → Option Step = λ es. accept_step c.boot es (claim_of c.boot es c.number) units calls in
       memory-next c memory (command.Accept start len) (report_event c.boot claim calls) (report_reply (stop_of calls) (next_run c.boot claim (stop_of calls)) (cleared_by c.boot memory claim calls)) now fine
@@ -96,19 +96,19 @@ module _ (c : Seen) (memory : List Entry) (name : List ℕ) (order : ℕ) (now :
 
   -- an allocation's event
   pub alloc-next : (e : Event) → claim_of c.boot memory c.number ≡ None → alloc_event c.boot memory order ≡ Some e → CallsFit c.boot memory e → place.Memory ≡ place_of c.boot e → MovesNone e
-      → IsNext c memory (entry_of_step c memory e (alloc_reply e))
+      → NextThere c memory (entry_of_step c memory e (alloc_reply e))
   alloc-next e free is fits here moves =
       memory-next c memory (command.Alloc name order) e (alloc_reply e) now fine (at-rest (calls_in e) (Some e) free is) fits here moves
 
   pub alloc-idle : claim_of c.boot memory c.number ≡ None → alloc_event c.boot memory order ≡ None → IsIdle c memory
   alloc-idle free is scripts have =
       ap is_none
-      (next-is c scripts (map unmoved memory) [] (command.Alloc name order) have now
+      (next-now c scripts (map unmoved memory) [] (command.Alloc name order) have now
       ∙ ap (λ (r : Option Reply). refused_or r (unrefused_step c.boot c.number (own_now c) (map unmoved memory) (command.Alloc name order) [])) fine
       ∙ at-rest [] None free is)
 
   pub alloc-report-next : (claim : Claimed) (calls : List ModuleCall) → claim_of c.boot memory c.number ≡ Some claim → AcceptsUnits c.boot (calls_of c.boot memory) claim.run calls
-      → IsNext c memory (entry_of_step c memory (report_event c.boot claim calls) (stopped_reply (stop_of calls)))
+      → NextThere c memory (entry_of_step c memory (report_event c.boot claim calls) (stopped_reply (stop_of calls)))
   alloc-report-next claim calls has accepts =
       memory-next c memory (command.Alloc name order) (report_event c.boot claim calls) (stopped_reply (stop_of calls)) now fine
       (ap (allocs calls) (entries-unmoved memory) ∙ ap (λ (claim : Option Claimed). alloc_step c.boot memory claim order calls) has)
@@ -123,7 +123,7 @@ told_by true stop next cleared = stopped_reply stop
 
 pub report-next : (c : Seen) (memory : List Entry) (present : Command) (claim : Claimed) (calls : List ModuleCall) → present_command c ≡ Some present → refusal_of c.boot (own_now c) present ≡ None → ClaimsFor present claim.block
     → claim_of c.boot memory c.number ≡ Some claim → AcceptsUnits c.boot (calls_of c.boot memory) claim.run calls
-    → IsNext c memory (entry_of_step c memory (report_event c.boot claim calls) (told_by (is_alloc (Some present)) (stop_of calls) (next_run c.boot claim (stop_of calls)) (cleared_by c.boot memory claim calls)))
+    → NextThere c memory (entry_of_step c memory (report_event c.boot claim calls) (told_by (is_alloc (Some present)) (stop_of calls) (next_run c.boot claim (stop_of calls)) (cleared_by c.boot memory claim calls)))
 report-next c memory (command.Accept start len) claim calls now fine claims has accepts = accept-report-next c memory start len now fine claim calls has accepts
 report-next c memory (command.Alloc name order) claim calls now fine claims has accepts = alloc-report-next c memory name order now fine claim calls has accepts
 report-next c memory _ claim calls now fine claims has accepts = absurd claims

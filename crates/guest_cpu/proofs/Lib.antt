@@ -2,11 +2,11 @@ pub mod NeedLemmas
 pub mod KeptLemmas
 pub mod ReportLemmas
 pub mod RoomLemmas
-pub mod StandLemmas
 pub mod OwnLemmas
 pub mod AloneLemmas
 pub mod NextLemmas
 pub mod ToldLemmas
+pub mod MadeLemmas
 pub mod CourseLemmas
 pub mod ResultLemmas
 pub mod RoomAloneLemmas
@@ -22,3 +22,8 @@ pub mod AcceptLemmas
 pub mod AllocLemmas
 pub mod LookLemmas
 pub mod MayLemmas
+pub mod AreaLemmas
+pub mod LeavesLemmas
+pub mod AccessLemmas
+pub mod EndingLemmas
+pub mod VisitLemmas

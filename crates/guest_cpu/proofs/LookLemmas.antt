@@ -10,6 +10,7 @@ use Rattle.guest_base.specs.declared.memory.CpuNo.{CpuNo}
 use Rattle.event_core.specs.declared.command.Command.{Command}
 use Rattle.event_core.specs.declared.command.Command.TheVariants as command
 use Rattle.event_core.specs.declared.entry.Entry.{Entry}
+use Rattle.event_core.specs.declared.entry.Place.TheVariants as place
 use Rattle.event_core.specs.declared.entry.Turn.{Turn}
 use Rattle.event_core.specs.declared.event.Event.{Event}
 use Rattle.event_core.specs.declared.event.Event.TheVariants as event
@@ -18,11 +19,13 @@ use Rattle.event_core.specs.declared.reply.Reply.TheVariants as reply
 use Rattle.event_core.specs.BlockRows.{without_waiting}
 use Rattle.event_core.specs.Blocks.{block_units, in_flight_with, lowest_waiting}
 use Rattle.event_core.specs.Claims.{in_the_way}
-use Rattle.event_core.specs.Holdings.{Holding, same_block}
+use Rattle.event_core.specs.Holdings.{Holding, Own, same_block}
 use Rattle.event_core.specs.MemoryRows.{run_of_claim}
-use Rattle.event_core.specs.Own.{after_alloc, own_of, replied, told}
+use Rattle.event_core.specs.Moved.{Moved}
+use Rattle.event_core.specs.Own.{after_alloc, ended, own_of, replied}
 use Rattle.block_laws.proofs.StandFacts.{same-block}
-use Rattle.held_blocks.specs.Held.{Held, IsInMemory, blocks_of, is_held, owned}
+use Rattle.held_blocks.specs.Held.{IsInMemory, is_held}
+use Rattle.held_blocks.specs.Holdings.{HoldingsValue, own_in as own_held}
 use Rattle.memory_core.specs.Answers.{OthersKeep}
 use Rattle.memory_core.specs.Looks.{Clears, ClaimsBlock, Gets, IsStopped, Looks, LookedBy, Wants}
 use Rattle.memory_core.specs.Owners.{is_owner}
@@ -40,7 +43,7 @@ use Rattle.guest_cpu.specs.Made.{entry_at, turn_of}
 use Rattle.guest_cpu.specs.Progressing.{Progressed}
 use Rattle.guest_cpu.specs.Stepping.{Adds, ClaimMade, claim_made, going_on, runs_with}
 use Rattle.guest_cpu.proofs.AllocLemmas.{event-claim, event-got, event-wanted}
-use Rattle.guest_cpu.proofs.KeptLemmas.{holds-told, same-owned}
+use Rattle.guest_cpu.proofs.KeptLemmas.{holds-told}
 
 -- What a look makes of a processor's course.
 
@@ -75,25 +78,23 @@ got-unheld memory cpu block (h ∷ hs) fresh owned =
 
 -- ---- the blocks that are held behind it
 
-got-told : (turned : Turn) (name : List ℕ) (order : ℕ) (block : Block) (answer : Reply) (held reserved new : Held) → blocks_of reserved ≡ blocks_of held → owned new ≡ after_alloc name (event.Got block) (owned reserved)
-    → told (Some (command.Alloc name order)) (unmoved (entry_at turned (event.Got block) (Some answer))) (owned held) ≡ owned new
-got-told turned name order block answer held reserved new same is = ap (after_alloc name (event.Got block)) (sym (same-owned held reserved same)) ∙ sym is
+pub got-holds : (script : List Command) (moved made : List Moved) (turned : Turn) (name : List ℕ) (order : ℕ) (block : Block) (answer : Reply) (held reserved got now : HoldingsValue) → own_of script moved ≡ own_held held → own_held reserved ≡ own_held held
+    → own_held got ≡ after_alloc name (event.Got block) (own_held reserved) → own_held now ≡ ended (Some answer) (own_held got) → slice_get script turned.cmd ≡ Some (command.Alloc name order) → made ≡ moved ++ unmoved (entry_at turned place.Memory (event.Got block) (Some answer)) ∷ [] → own_of script made ≡ own_held now
+got-holds script moved made turned name order block answer held reserved got now holds same is after its made_is =
+    ap (own_of script) made_is
+    ∙ holds-told script moved (unmoved (entry_at turned place.Memory (event.Got block) (Some answer))) (command.Alloc name order) held now holds its
+    (ap (λ (o : Own). ended (Some answer) (after_alloc name (event.Got block) o)) (sym same) ∙ ap (ended (Some answer)) (sym is) ∙ sym after)
 
-pub got-holds : (script : List Command) (entries made : List Entry) (turned : Turn) (name : List ℕ) (order : ℕ) (block : Block) (answer : Reply) (held reserved new : Held) → own_of script (map unmoved entries) ≡ owned held → blocks_of reserved ≡ blocks_of held
-    → owned new ≡ after_alloc name (event.Got block) (owned reserved) → slice_get script turned.cmd ≡ Some (command.Alloc name order) → made ≡ entries ++ entry_at turned (event.Got block) (Some answer) ∷ [] → own_of script (map unmoved made) ≡ owned new
-got-holds script entries made turned name order block answer held reserved new holds same is now made_is =
-    ap (λ (es : List Entry). own_of script (map unmoved es)) made_is
-    ∙ holds-told script entries (entry_at turned (event.Got block) (Some answer)) (command.Alloc name order) held new holds now tt (got-told turned name order block answer held reserved new same is)
-
-pub none-holds : (script : List Command) (entries made : List Entry) (turned : Turn) (name : List ℕ) (order : ℕ) (answer : Reply) (held reserved : Held) → own_of script (map unmoved entries) ≡ owned held → blocks_of reserved ≡ blocks_of held
-    → slice_get script turned.cmd ≡ Some (command.Alloc name order) → made ≡ entries ++ entry_at turned event.NoBlock (Some answer) ∷ [] → own_of script (map unmoved made) ≡ owned reserved
-none-holds script entries made turned name order answer held reserved holds same now made_is =
-    ap (λ (es : List Entry). own_of script (map unmoved es)) made_is
-    ∙ holds-told script entries (entry_at turned event.NoBlock (Some answer)) (command.Alloc name order) held reserved holds now tt (sym (same-owned held reserved same))
+pub none-holds : (script : List Command) (moved made : List Moved) (turned : Turn) (name : List ℕ) (order : ℕ) (answer : Reply) (held reserved now : HoldingsValue) → own_of script moved ≡ own_held held → own_held reserved ≡ own_held held → own_held now ≡ ended (Some answer) (own_held reserved)
+    → slice_get script turned.cmd ≡ Some (command.Alloc name order) → made ≡ moved ++ unmoved (entry_at turned place.Memory event.NoBlock (Some answer)) ∷ [] → own_of script made ≡ own_held now
+none-holds script moved made turned name order answer held reserved now holds same after its made_is =
+    ap (own_of script) made_is
+    ∙ holds-told script moved (unmoved (entry_at turned place.Memory event.NoBlock (Some answer))) (command.Alloc name order) held now holds its
+    (ap (ended (Some answer)) (sym same) ∙ sym after)
 
 -- the turn behind the event is the present command's
-pub turned-now : (before after : MemoryValue) (turn turned : Turn) (event : Event) (number : ℕ) (entries : List Entry) → turn ≡ turn_of number entries → Appends before after turn turned event → turned.cmd ≡ replied (map unmoved entries)
-turned-now before after turn turned event number entries is appends = ap (λ (t : Turn). t.cmd) appends.clock ∙ ap (λ (t : Turn). t.cmd) is
+pub turned-now : (before after : MemoryValue) (turn turned : Turn) (event : Event) (number : ℕ) (moved : List Moved) → turn ≡ turn_of number moved → Appends before after turn turned event → turned.cmd ≡ replied moved
+turned-now before after turn turned event number moved is appends = ap (λ (t : Turn). t.cmd) appends.clock ∙ ap (λ (t : Turn). t.cmd) is
 
 -- ---- the event that it appends
 
@@ -119,28 +120,28 @@ module _ (before after : MemoryValue) (turn turned : Turn) (order : ℕ) (looks 
 
 -- ---- the course
 
-adds-by : (old : Progressed) (before after : MemoryValue) (turn turned : Turn) (event : Event) (reply : Option Reply) (made : List Entry) (room : ℕ) → turn ≡ turn_of old.number old.entries → Appends before after turn turned event → OthersKeep before after turn.cpu.0
-    → made ≡ old.entries ++ entry_at turned event reply ∷ [] → Adds old (record old { entries = made; room = room }) before after event reply
+adds-by : (old : Progressed) (before after : MemoryValue) (turn turned : Turn) (event : Event) (reply : Option Reply) (made : List Moved) (room : ℕ) → turn ≡ turn_of old.number old.moved → Appends before after turn turned event → OthersKeep before after turn.cpu.0
+    → made ≡ old.moved ++ unmoved (entry_at turned place.Memory event reply) ∷ [] → Adds old (record old { moved = made; room = room }) before after event reply
 adds-by old before after turn turned event reply made room is appends others made_is =
     let A : Turn → Type 0 = λ t. Appends before after t turned event in
     let O : Turn → Type 0 = λ t. OthersKeep before after t.cpu.0 in
-    let there : Appends before after (turn_of old.number old.entries) turned event = subst A is appends in
+    let there : Appends before after (turn_of old.number old.moved) turned event = subst A is appends in
     record {
       boot = refl;
       number = refl;
       script = refl;
-      entries = made_is ∙ ap (λ (t : Turn). old.entries ++ entry_at t event reply ∷ []) there.clock;
+      moved = made_is ∙ ap (λ (t : Turn). old.moved ++ unmoved (entry_at t place.Memory event reply) ∷ []) there.clock;
       same = there.boot;
       memory = there.entries;
       others = subst O is others;
     }
 
-module _ (old : Progressed) (before after : MemoryValue) (turn turned : Turn) (order : ℕ) (runs : List Units) (is : turn ≡ turn_of old.number old.entries) (looks : Looks before after turn turned order) (others : OthersKeep before after turn.cpu.0) where
+module _ (old : Progressed) (before after : MemoryValue) (turn turned : Turn) (order : ℕ) (runs : List Units) (is : turn ≡ turn_of old.number old.moved) (looks : Looks before after turn turned order) (others : OthersKeep before after turn.cpu.0) where
   others-is : OthersKeep before after old.number
   others-is = let O : Turn → Type 0 = λ t. OthersKeep before after t.cpu.0 in subst O is others
 
-  pub got-looks : (block : Block) (made : List Entry) (room : ℕ) → Gets before after order block → made ≡ old.entries ++ entry_at turned (event.Got block) (Some (reply.Addr (PAGE_BYTES * block.first))) ∷ []
-      → LooksFor old (record old { entries = made; room = room }) before after order runs stepped.Event
+  pub got-looks : (block : Block) (made : List Moved) (room : ℕ) → Gets before after order block → made ≡ old.moved ++ unmoved (entry_at turned place.Memory (event.Got block) (Some (reply.Addr (PAGE_BYTES * block.first)))) ∷ []
+      → LooksFor old (record old { moved = made; room = room }) before after order runs stepped.Event
   got-looks block made room gets made_is = record {
     looked = look.Got block;
     by = gets;
@@ -152,8 +153,8 @@ module _ (old : Progressed) (before after : MemoryValue) (turn turned : Turn) (o
     others = others-is;
   }
 
-  pub none-looks : (made : List Entry) (room : ℕ) → LookedBy before after turn order look.NoBlock → made ≡ old.entries ++ entry_at turned event.NoBlock (Some reply.NoBlock) ∷ []
-      → LooksFor old (record old { entries = made; room = room }) before after order runs stepped.Event
+  pub none-looks : (made : List Moved) (room : ℕ) → LookedBy before after turn order look.NoBlock → made ≡ old.moved ++ unmoved (entry_at turned place.Memory event.NoBlock (Some reply.NoBlock)) ∷ []
+      → LooksFor old (record old { moved = made; room = room }) before after order runs stepped.Event
   none-looks made room by made_is = record {
     looked = look.NoBlock;
     by = by;

@@ -27,6 +27,9 @@ use Rattle.guest_cpu.specs.Made.{entry_at, turn_of}
 use Rattle.guest_cpu.specs.Progressing.{Progressed, command_of}
 use Rattle.guest_cpu.specs.Stepping.{Reports, first_of, going_on, reply_of_report, runs_with, span_of_report}
 use Rattle.guest_cpu.specs.Wanting.{is_alloc}
+use Rattle.event_core.specs.declared.entry.Place.TheVariants as place
+use Rattle.memory_core.specs.UnderLock.{unmoved}
+use Rattle.event_core.specs.Moved.{Moved}
 
 -- What a report makes of a processor's course.
 
@@ -63,16 +66,16 @@ end_told end (Some accepted) = accepted.end
 
 -- the course behind a report
 abbrev reported_as : Progressed → Turn → Units → List ModuleCall → Option Page → Option Units → Option Reply → Option Taken → List Units → ℕ → Progressed
-reported_as p turned run calls stopped next reply span runs room = going_on p (entry_at turned (event.Report run calls stopped next) reply) span runs room
+reported_as p turned run calls stopped next reply span runs room = going_on p (unmoved (entry_at turned place.Memory (event.Report run calls stopped next) reply)) span runs room
 
-abbrev seen_as : Progressed → List Entry → Option Taken → Option Accepted → List Units → ℕ → Progressed
-seen_as p entries out done runs room = record p { entries = entries; out = out; done = done; runs = runs; room = room }
+abbrev seen_as : Progressed → List Moved → Option Taken → Option Accepted → List Units → ℕ → Progressed
+seen_as p moved out done runs room = record p { moved = moved; out = out; done = done; runs = runs; room = room }
 
 module _ (p : Progressed) (open_run : Option OpenRun) (later : List RunRoom) (w : Worked) (before after : MemoryValue) (turn turned : Turn) (reported : Reported) (span : Option Taken) (reply : Option Reply)
-    (opened : Option OpenRun) (rest : List RunRoom) (next : Option Units) (stopped : Option Page) (entries : List Entry) (room : ℕ) where
+    (opened : Option OpenRun) (rest : List RunRoom) (next : Option Units) (stopped : Option Page) (moved : List Moved) (room : ℕ) where
   report-course : p.runs ≡ runs_of open_run later → TellsWorked open_run w → span ≡ span_of_report reported → reply ≡ reply_of_report (is_alloc (command_of p)) reported → OpensFirst span later opened rest next → stopped ≡ stopped_at w.end
-      → entries ≡ p.entries ++ entry_at turned (event.Report w.run w.copy stopped next) reply ∷ []
-      → seen_as p entries (out_of opened) (done_of opened) (runs_of opened rest) room
+      → moved ≡ p.moved ++ unmoved (entry_at turned place.Memory (event.Report w.run w.copy stopped next) reply) ∷ []
+      → seen_as p moved (out_of opened) (done_of opened) (runs_of opened rest) room
       ≡ reported_as p turned w.run w.calls (stopped_at w.end) (first_of (runs_with (span_of_report reported) (drop 1 p.runs))) (reply_of_report (is_alloc (command_of p)) reported) (span_of_report reported) (runs_with (span_of_report reported) (drop 1 p.runs)) room
   report-course has_runs tells is_span is_reply opens is_stopped made =
       let o = opens-seen span later opened rest next opens in
@@ -80,28 +83,28 @@ module _ (p : Progressed) (open_run : Option OpenRun) (later : List RunRoom) (w 
       let runs : runs_with span (runs_in later) ≡ runs_with (span_of_report reported) (drop 1 p.runs) = ap (λ (s : Option Taken). runs_with s (runs_in later)) is_span ∙ ap (runs_with (span_of_report reported)) behind in
       let told : event.Report w.run w.copy stopped next ≡ event.Report w.run w.calls (stopped_at w.end) (first_of (runs_with (span_of_report reported) (drop 1 p.runs))) =
       ap (λ (cs : List ModuleCall). event.Report w.run cs stopped next) tells.copy ∙ ap (λ (s : Option Page). event.Report w.run w.calls s next) is_stopped ∙ ap (event.Report w.run w.calls (stopped_at w.end)) (o.first ∙ ap first_of runs) in
-      let entry : entry_at turned (event.Report w.run w.copy stopped next) reply ≡ entry_at turned (event.Report w.run w.calls (stopped_at w.end) (first_of (runs_with (span_of_report reported) (drop 1 p.runs)))) (reply_of_report (is_alloc (command_of p)) reported) =
-      ap (λ (e : Event). entry_at turned e reply) told ∙ ap (λ (r : Option Reply). entry_at turned (event.Report w.run w.calls (stopped_at w.end) (first_of (runs_with (span_of_report reported) (drop 1 p.runs)))) r) is_reply in
-      let list = made ∙ ap (λ (e : Entry). p.entries ++ e ∷ []) entry in
-      ap (λ (es : List Entry). seen_as p es (out_of opened) (done_of opened) (runs_of opened rest) room) list
-      ∙ ap (λ (s : Option Taken). seen_as p (p.entries ++ entry_at turned (event.Report w.run w.calls (stopped_at w.end) (first_of (runs_with (span_of_report reported) (drop 1 p.runs)))) (reply_of_report (is_alloc (command_of p)) reported) ∷ []) s (done_of opened) (runs_of opened rest) room) (o.out ∙ is_span)
-      ∙ ap (λ (d : Option Accepted). seen_as p (p.entries ++ entry_at turned (event.Report w.run w.calls (stopped_at w.end) (first_of (runs_with (span_of_report reported) (drop 1 p.runs)))) (reply_of_report (is_alloc (command_of p)) reported) ∷ []) (span_of_report reported) d (runs_of opened rest) room) o.done
-      ∙ ap (λ (rs : List Units). seen_as p (p.entries ++ entry_at turned (event.Report w.run w.calls (stopped_at w.end) (first_of (runs_with (span_of_report reported) (drop 1 p.runs)))) (reply_of_report (is_alloc (command_of p)) reported) ∷ []) (span_of_report reported) None rs room) (o.runs ∙ runs)
+      let entry : entry_at turned place.Memory (event.Report w.run w.copy stopped next) reply ≡ entry_at turned place.Memory (event.Report w.run w.calls (stopped_at w.end) (first_of (runs_with (span_of_report reported) (drop 1 p.runs)))) (reply_of_report (is_alloc (command_of p)) reported) =
+      ap (λ (e : Event). entry_at turned place.Memory e reply) told ∙ ap (λ (r : Option Reply). entry_at turned place.Memory (event.Report w.run w.calls (stopped_at w.end) (first_of (runs_with (span_of_report reported) (drop 1 p.runs)))) r) is_reply in
+      let list = made ∙ ap (λ (e : Entry). p.moved ++ unmoved e ∷ []) entry in
+      ap (λ (ms : List Moved). seen_as p ms (out_of opened) (done_of opened) (runs_of opened rest) room) list
+      ∙ ap (λ (s : Option Taken). seen_as p (p.moved ++ unmoved (entry_at turned place.Memory (event.Report w.run w.calls (stopped_at w.end) (first_of (runs_with (span_of_report reported) (drop 1 p.runs)))) (reply_of_report (is_alloc (command_of p)) reported)) ∷ []) s (done_of opened) (runs_of opened rest) room) (o.out ∙ is_span)
+      ∙ ap (λ (d : Option Accepted). seen_as p (p.moved ++ unmoved (entry_at turned place.Memory (event.Report w.run w.calls (stopped_at w.end) (first_of (runs_with (span_of_report reported) (drop 1 p.runs)))) (reply_of_report (is_alloc (command_of p)) reported)) ∷ []) (span_of_report reported) d (runs_of opened rest) room) o.done
+      ∙ ap (λ (rs : List Units). seen_as p (p.moved ++ unmoved (entry_at turned place.Memory (event.Report w.run w.calls (stopped_at w.end) (first_of (runs_with (span_of_report reported) (drop 1 p.runs)))) (reply_of_report (is_alloc (command_of p)) reported)) ∷ []) (span_of_report reported) None rs room) (o.runs ∙ runs)
 
-  pub reports-made : p.out ≡ out_of open_run → p.done ≡ done_of open_run → p.runs ≡ runs_of open_run later → TellsWorked open_run w → turn ≡ turn_of p.number p.entries
+  pub reports-made : p.out ≡ out_of open_run → p.done ≡ done_of open_run → p.runs ≡ runs_of open_run later → TellsWorked open_run w → turn ≡ turn_of p.number p.moved
       → ((claim : Claimed) → claim_of before.boot before.entries turn.cpu.0 ≡ Some claim → ReportedBy before after turn claim w.calls reported)
       → ((claim : Claimed) → claim_of before.boot before.entries turn.cpu.0 ≡ Some claim → Appends before after turn turned (report_event before.boot claim w.calls))
       → ((claim : Claimed) → claim_of before.boot before.entries turn.cpu.0 ≡ Some claim → BringsTo before.boot (calls_of before.boot before.entries) claim.run w.span w.calls w.end)
       → OthersKeep before after turn.cpu.0
       → span ≡ span_of_report reported → reply ≡ reply_of_report (is_alloc (command_of p)) reported → OpensFirst span later opened rest next → stopped ≡ stopped_at w.end
-      → entries ≡ p.entries ++ entry_at turned (event.Report w.run w.copy stopped next) reply ∷ []
+      → moved ≡ p.moved ++ unmoved (entry_at turned place.Memory (event.Report w.run w.copy stopped next) reply) ∷ []
       → (calls : List ModuleCall) (end : RunEnd) → (let d : Option Accepted = Some (record { calls = calls; end = end }) in p.done ≡ d) → (claim : Claimed) → claim_of before.boot before.entries p.number ≡ Some claim
-      → Reports p (seen_as p entries (out_of opened) (done_of opened) (runs_of opened rest) room) before after claim calls end
+      → Reports p (seen_as p moved (out_of opened) (done_of opened) (runs_of opened rest) room) before after claim calls end
   reports-made is_out is_done has_runs tells is_turn by appends brings others is_span is_reply opens is_stopped made calls end done claim claimed =
       let both = sym tells.done ∙ sym is_done ∙ done in
       let same : w.calls ≡ calls = ap calls_told both in
       let same_end : w.end ≡ end = ap (end_told end) both in
-      let new = seen_as p entries (out_of opened) (done_of opened) (runs_of opened rest) room in
+      let new = seen_as p moved (out_of opened) (done_of opened) (runs_of opened rest) room in
       let C : List ModuleCall → Type 0 = λ cs. Reports p new before after claim cs end in
       let E : RunEnd → Type 0 = λ e. Reports p new before after claim w.calls e in
       let B : Turn → Type 0 = λ t. ReportedBy before after t claim w.calls reported in

@@ -1,4 +1,4 @@
-use Rattle.std.proofs.Common.{◌≡◌, ◌≢◌, ℕ, ◌+◌, ◌≤◌, ◌<◌, true, false, Option, None, Some, List, [], ◌∷◌, ◌++◌, refl, sym, ◌∙◌, ap, subst, arith, append-nil, cond, length, map}
+use Rattle.std.proofs.Common.{◌≡◌, ◌≢◌, ℕ, ◌+◌, ◌≤◌, ◌<◌, true, false, Option, None, Some, List, [], ◌∷◌, ◌++◌, refl, sym, ◌∙◌, ap, subst, arith, append-nil, cond, length}
 use Rattle.std.specs.Prelude.{Bool, IfSome, drop, is_some, slice_get}
 use Rattle.std.proofs.lemmas.Option.{slice_get_within}
 use Rattle.std.proofs.lemmas.List.Elements.{All-nil}
@@ -11,6 +11,7 @@ use Rattle.event_core.specs.declared.boot.Boot.{Boot}
 use Rattle.event_core.specs.declared.command.Command.{Command}
 use Rattle.event_core.specs.declared.command.Command.TheVariants as command
 use Rattle.event_core.specs.declared.entry.Entry.{Entry}
+use Rattle.event_core.specs.declared.entry.Place.TheVariants as place
 use Rattle.event_core.specs.declared.entry.Turn.{Turn}
 use Rattle.event_core.specs.declared.event.Event.{Event}
 use Rattle.event_core.specs.declared.event.Event.TheVariants as event
@@ -22,7 +23,8 @@ use Rattle.event_core.specs.Calls.{calls_of}
 use Rattle.event_core.specs.Claims.{Claimed, claim_of, claim_step, goes_on}
 use Rattle.event_core.specs.MemoryRows.{AcceptsUnits, cleared_by, next_run, report_event}
 use Rattle.event_core.specs.Next.{report_reply, stopped_reply}
-use Rattle.event_core.specs.Own.{replied}
+use Rattle.event_core.specs.Moved.{Moved}
+use Rattle.event_core.specs.Own.{own_of, replied}
 use Rattle.event_core.specs.Units.{bit_after, units_end}
 use Rattle.accept_sizes.specs.Ends.{stopped_at}
 use Rattle.accept_sizes.specs.declared.accept.RunEnd.{RunEnd}
@@ -32,6 +34,7 @@ use Rattle.memory_core.specs.Bitmaps.{AreRunsFrom}
 use Rattle.memory_core.specs.Owners.{is_owner}
 use Rattle.memory_core.specs.Steps.{last_stamp, pages_of}
 use Rattle.memory_core.specs.UnderLock.{unmoved}
+use Rattle.io_areas.specs.Value.{AreaValue}
 use Rattle.memory_core.specs.Value.{MemoryValue, Handed, handed_to}
 use Rattle.memory_core.specs.Waiting.{waiting_left}
 use Rattle.memory_core.specs.declared.memory.Reported.{Reported}
@@ -42,12 +45,14 @@ use Rattle.memory_core.proofs.UnitsLemmas.{first_run-facts}
 use Rattle.page_module.specs.Spans.{LieInMemory, Taken}
 use Rattle.page_module.specs.declared.ticket.Ticket.{Ticket}
 use Rattle.guest_steps.specs.Replies.{is_module}
-use Rattle.guest_steps.specs.Seen.{Seen, Accepted, left_by, steps_waiting}
+use Rattle.guest_steps.specs.Seen.{Seen, Accepted, left_by, need_by, need_for, need_of, steps_waiting}
+use Rattle.guest_steps.specs.declared.processor.Need.TheVariants as need
+use Rattle.guest_steps.specs.Ground.{ground_of}
 use Rattle.guest_steps.specs.Standing.{Claiming, ClaimsFor, IsAsHanded, IsOut, StopTold, unreported}
-use Rattle.guest_steps.specs.Steps.{IsNext, MakesIn, memory_after}
+use Rattle.guest_steps.specs.Steps.{MakesInMemory}
 use Rattle.guest_steps.proofs.AccountLemmas.{again-less, waiting-fewer}
 use Rattle.guest_cpu.specs.Made.{entry_at, turn_of}
-use Rattle.guest_cpu.specs.Progressing.{Progressed, command_of, moved_in}
+use Rattle.guest_cpu.specs.Progressing.{Progressed, command_of}
 use Rattle.guest_cpu.specs.Standing.{CourseStands, RunsAre, RunsStand, calls_owed, seen_with}
 use Rattle.guest_cpu.specs.Stepping.{Reportable, Reports, first_of, going_on, memory_entry, reply_of_report, runs_with, span_of_report}
 use Rattle.guest_cpu.specs.Wanting.{is_alloc}
@@ -55,6 +60,7 @@ use Rattle.guest_cpu.proofs.ClaimLemmas.{clock-low, fine-behind, same-claimed}
 use Rattle.guest_cpu.proofs.ClaimNextLemmas.{report-next, told_by}
 use Rattle.guest_cpu.proofs.CourseLemmas.{made-course, no-runs}
 use Rattle.guest_cpu.proofs.MemoryLemmas.{Stepped_to}
+use Rattle.guest_cpu.proofs.NextLemmas.{NextThere}
 use Rattle.guest_cpu.proofs.SpanLemmas.{pages-behind, pages-low, span-accepts}
 use Rattle.guest_cpu.proofs.ToldLemmas.{less-closed, less-next, replied-push}
 
@@ -76,8 +82,8 @@ out-claims c memory (Some s) (Some d) span accepted is some told =
     subst D same_done (subst S same is)
 
 -- what a report is made over
-pub record ReportOver (p q : Progressed) (made_before made : List ModuleCall) (faults_before faults kept : ℕ) (before after : MemoryValue) (claim : Claimed) (span : Taken) (calls : List ModuleCall) (end : RunEnd) : Type 0 where
-  pub stands : CourseStands p made_before made faults_before faults kept before
+pub record ReportOver (p q : Progressed) (made_before made : List ModuleCall) (faults_before faults kept : ℕ) (areas : List AreaValue) (before after : MemoryValue) (claim : Claimed) (span : Taken) (calls : List ModuleCall) (end : RunEnd) : Type 0 where
+  pub stands : CourseStands p made_before made faults_before faults kept (ground_of before areas)
   pub out : p.out ≡ Some span
   pub done : p.done ≡ Some (accepted_by calls end)
   pub claiming : Claiming (seen_with p made_before made faults_before faults) before claim span
@@ -134,7 +140,7 @@ for-a-block (command.Alloc name order) block claims is = claims
 for-a-block (command.Accept start len) block claims is = absurd (let no : false ≡ true = is in cc)
 for-a-block _ block claims is = absurd claims
 
-module _ (made_before made : List ModuleCall) (faults_before faults kept : ℕ) (p0 q : Progressed) (before after : MemoryValue) (claim : Claimed) (span : Taken) (calls : List ModuleCall) (end : RunEnd) where
+module _ (made_before made : List ModuleCall) (faults_before faults kept : ℕ) (p0 q : Progressed) (areas : List AreaValue) (before after : MemoryValue) (claim : Claimed) (span : Taken) (calls : List ModuleCall) (end : RunEnd) where
   abbrev p : Progressed
   p = record p0 { boot = before.boot }
 
@@ -156,7 +162,7 @@ module _ (made_before made : List ModuleCall) (faults_before faults kept : ℕ) 
   abbrev e : Entry
   e = memory_entry p before (report_event before.boot claim calls) told
 
-  module _ (h : ReportOver p q made_before made faults_before faults kept before after claim span calls end) where
+  module _ (h : ReportOver p q made_before made faults_before faults kept areas before after claim span calls end) where
     abbrev r : Reports p q before after claim calls end
     r = h.reports
 
@@ -175,17 +181,17 @@ module _ (made_before made : List ModuleCall) (faults_before faults kept : ℕ) 
     claim-is : claim_of before.boot after.entries p0.number ≡ goes_on before.boot (calls_of before.boot before.entries) calls (Some claim) (stop_of calls) next
     claim-is =
         ap (λ (es : List Entry). claim_of before.boot es p0.number) r.appends.entries
-        ∙ claim-mine before.boot before.entries (turn_of p0.number p0.entries) (last_stamp before.entries) (report_event before.boot claim calls)
+        ∙ claim-mine before.boot before.entries (turn_of p0.number p0.moved) (last_stamp before.entries) (report_event before.boot claim calls)
         ∙ ap (λ (c : Option Claimed). claim_step before.boot (calls_of before.boot before.entries) c (report_event before.boot claim calls)) h.claiming.claimed
 
     -- the entry that was made
-    entry-is : (rs : List Units) (answer : Option Reply) → first_of rs ≡ next → answer ≡ told → entry_at r.turned (event.Report r.run calls (stopped_at end) (first_of rs)) answer ≡ e
+    entry-is : (rs : List Units) (answer : Option Reply) → first_of rs ≡ next → answer ≡ told → unmoved (entry_at r.turned place.Memory (event.Report r.run calls (stopped_at end) (first_of rs)) answer) ≡ unmoved e
     entry-is rs answer first is =
         let same : event.Report r.run calls (stopped_at end) (first_of rs) ≡ report_event before.boot claim calls =
         ap (λ (u : Units). event.Report u calls (stopped_at end) (first_of rs)) runs-are.0 ∙ ap (λ (s : Option Page). event.Report claim.run calls s (first_of rs)) stop-is ∙ ap (event.Report claim.run calls (stop_of calls)) first in
-        ap (λ (t : Turn). entry_at t (event.Report r.run calls (stopped_at end) (first_of rs)) answer) r.appends.clock
-        ∙ ap (λ (x : Event). memory_entry p before x answer) same
-        ∙ ap (memory_entry p before (report_event before.boot claim calls)) is
+        ap (λ (t : Turn). unmoved (entry_at t place.Memory (event.Report r.run calls (stopped_at end) (first_of rs)) answer)) r.appends.clock
+        ∙ ap (λ (x : Event). unmoved (memory_entry p before x answer)) same
+        ∙ ap (λ (o : Option Reply). unmoved (memory_entry p before (report_event before.boot claim calls) o)) is
 
     rose : is_module told ≡ true → Rose faults_before faults
     rose is =
@@ -195,25 +201,23 @@ module _ (made_before made : List ModuleCall) (faults_before faults kept : ℕ) 
 
     -- fewer steps are left, with those for the blocks that wait
     abbrev LeftIn : Option Taken → Option Taken → Type 0
-    LeftIn out o = left_by (length p0.script) (replied (map unmoved (p0.entries ++ e ∷ []))) out + steps_waiting before.boot (memory_after before.entries e) < left_by (length p0.script) (replied (moved_in p0)) o + steps_waiting before.boot before.entries
+    LeftIn out o = left_by (length p0.script) (replied (p0.moved ++ unmoved e ∷ [])) out + steps_waiting before.boot after.entries < left_by (length p0.script) (replied p0.moved) o + steps_waiting before.boot before.entries
 
     abbrev left_behind : Option Taken → ℕ
-    left_behind out = left_by (length p0.script) (replied (map unmoved (p0.entries ++ e ∷ []))) out
+    left_behind out = left_by (length p0.script) (replied (p0.moved ++ unmoved e ∷ [])) out
 
     abbrev left_before : ℕ
-    left_before = left_by (length p0.script) (replied (moved_in p0)) (Some span)
+    left_before = left_by (length p0.script) (replied p0.moved) (Some span)
 
     left-in : (out : Option Taken) → left_behind out + steps_waiting before.boot after.entries < left_before + steps_waiting before.boot before.entries → LeftIn out (Some span)
-    left-in out less =
-        let L : List Entry → Type 0 = λ es. left_behind out + steps_waiting before.boot es < left_before + steps_waiting before.boot before.entries in
-        subst L r.appends.entries less
+    left-in out less = less
 
     no-more : steps_waiting before.boot after.entries ≤ steps_waiting before.boot before.entries
     no-more = waiting-fewer before.boot before.entries after.entries r.others.waiting
 
-    next-is : IsNext (see p) before.entries e
+    next-is : NextThere (see p) before.entries e
     next-is =
-        let N : Option Reply → Type 0 = λ o. IsNext (see p) before.entries (memory_entry p before (report_event before.boot claim calls) o) in
+        let N : Option Reply → Type 0 = λ o. NextThere (see p) before.entries (memory_entry p before (report_event before.boot claim calls) o) in
         let same = ap (λ (oc : Option Command). told_by (is_alloc oc) (stop_of calls) next cleared) (sym h.claiming.present) in
         subst N same (report-next (see p) before.entries h.claiming.command claim calls h.claiming.present h.claiming.fine h.claiming.claims h.claiming.claimed accepts)
 
@@ -221,34 +225,37 @@ module _ (made_before made : List ModuleCall) (faults_before faults kept : ℕ) 
     nobodys got is = absurd (let no : report_event before.boot claim calls ≡ event.Got got = is in cc)
 
     -- behind it
-    finish : (out : Option Taken) (rs : List Units) → q ≡ going_on p e out rs q.room → LeftIn out (Some span)
-        → IsOut (see (going_on p e out rs q.room)) after out None → RunsStand (going_on p e out rs q.room) after → calls_owed before.boot None rs ≤ kept
-        → Stepped_to p q made_before made faults_before faults kept before after
+    finish : (out : Option Taken) (rs : List Units) → q ≡ going_on p (unmoved e) out rs q.room → LeftIn out (Some span)
+        → IsOut (see (going_on p (unmoved e) out rs q.room)) after out None → RunsStand (going_on p (unmoved e) out rs q.room) after → calls_owed before.boot None rs ≤ kept
+        → Stepped_to p q made_before made faults_before faults kept areas before after
     finish out rs is less is_out stand owed =
-        let Q : Progressed → Type 0 = λ x. Stepped_to p x made_before made faults_before faults kept before after in
-        let makes : MakesIn (see p) (see (going_on p e out rs q.room)) before after = record {
-          entry = e;
+        let Q : Progressed → Type 0 = λ x. Stepped_to p x made_before made faults_before faults kept areas before after in
+        let makes : MakesInMemory (see p) (see (going_on p (unmoved e) out rs q.room)) before after = record {
+          m = unmoved e;
           makes = record {
-            next = next-is;
-            entries = refl;
+            next = next-is.next;
+            moved = refl;
             same = record { boot = refl; number = refl; script = refl; made_before = refl; made = refl; faults_before = refl; faults = refl };
             done = refl;
-            less = subst (LeftIn out) (sym h.out) less;
           };
+          place = refl;
+          busy = next-is.busy;
           boot = r.appends.boot;
           entries = r.appends.entries;
           others = r.others;
+          less = subst (LeftIn out) (sym h.out) less;
         } in
+        let needs : need_of (see p) ≡ need.Memory = ap (λ (o : Option Taken). need_by o (need_for before.boot p0.number (own_of p0.script p0.moved) (command_of p))) h.out in
         subst Q (sym is) (record {
           makes = makes;
-          stands = made-course made_before made faults_before faults p e out rs q.room kept before after h.stands makes nobodys is_out stand owed (sym (ap unreported h.done)) rose;
+          stands = made-course made_before made faults_before faults p (unmoved e) out rs q.room kept areas before after h.stands needs makes nobodys is_out stand owed (sym (ap unreported h.done)) rose;
         })
 
-    count-by : (answer : Option Reply) → answer ≡ told → replied (map unmoved (p0.entries ++ e ∷ [])) ≡ replied (moved_in p0) + cond (is_some answer) 1 0
-    count-by answer is = replied-push p0.entries e ∙ ap (λ (o : Option Reply). replied (moved_in p0) + cond (is_some o) 1 0) (sym is)
+    count-by : (answer : Option Reply) → answer ≡ told → replied (p0.moved ++ unmoved e ∷ []) ≡ replied p0.moved + cond (is_some answer) 1 0
+    count-by answer is = replied-push p0.moved (unmoved e) ∙ ap (λ (o : Option Reply). replied p0.moved + cond (is_some o) 1 0) (sym is)
 
-    count-open : told ≡ None → replied (map unmoved (p0.entries ++ e ∷ [])) ≡ replied (moved_in p0)
-    count-open none = count-by None (sym none) ∙ add-zero (replied (moved_in p0)) where
+    count-open : told ≡ None → replied (p0.moved ++ unmoved e ∷ []) ≡ replied p0.moved
+    count-open none = count-by None (sym none) ∙ add-zero (replied p0.moved) where
       add-zero : (n : ℕ) → n + 0 ≡ n
       add-zero n = omega arith
 
@@ -256,7 +263,7 @@ module _ (made_before made : List ModuleCall) (faults_before faults kept : ℕ) 
     left-ended : (answer : Reply) → told ≡ Some answer → LeftIn None (Some span)
     left-ended answer is =
         let count = ap (λ n. left_by (length p0.script) n None) (count-by (Some answer) (sym is)) in
-        let less = less-closed (length p0.script) (replied (moved_in p0)) span in
+        let less = less-closed (length p0.script) (replied p0.moved) span in
         let more = no-more in
         left-in None (omega (arith, count, less, more))
 
@@ -265,30 +272,30 @@ module _ (made_before made : List ModuleCall) (faults_before faults kept : ℕ) 
     left-closed true is whole none pays =
         let untold : told ≡ None = ap (λ (b : Bool). told_by b (stop_of calls) next cleared) is ∙ closed-told true (stop_of calls) next cleared cleared whole none refl in
         let count = ap (λ n. left_by (length p0.script) n None) (count-open untold) in
-        let some = slice_get_within p0.script (replied (moved_in p0)) h.claiming.command h.claiming.present in
+        let some = slice_get_within p0.script (replied p0.moved) h.claiming.command h.claiming.present in
         let fewer = pays (for-a-block h.claiming.command claim.block h.claiming.claims (ap is_alloc (sym h.claiming.present) ∙ is)) in
-        let less = again-less before.boot before.entries after.entries (length p0.script) (replied (moved_in p0)) span some fewer in
+        let less = again-less before.boot before.entries after.entries (length p0.script) (replied p0.moved) span some fewer in
         left-in None (omega (arith, count, less))
 
     -- no run is left, or it stopped
     closed-steps : (answer : Option Reply) → next ≡ None → told ≡ answer → LeftIn None (Some span)
-        → q ≡ going_on p (entry_at r.turned (event.Report r.run calls (stopped_at end) None) answer) None [] q.room
-        → Stepped_to p q made_before made faults_before faults kept before after
+        → q ≡ going_on p (unmoved (entry_at r.turned place.Memory (event.Report r.run calls (stopped_at end) None) answer)) None [] q.room
+        → Stepped_to p q made_before made faults_before faults kept areas before after
     closed-steps answer none is less course =
-        let same : q ≡ going_on p e None [] q.room = course ∙ ap (λ (x : Entry). let y : Progressed = going_on p x None [] q.room in y) (entry-is [] answer (sym none) (sym is)) in
+        let same : q ≡ going_on p (unmoved e) None [] q.room = course ∙ ap (λ (x : Moved). let y : Progressed = going_on p x None [] q.room in y) (entry-is [] answer (sym none) (sym is)) in
         let still : claim_of before.boot after.entries p0.number ≡ None = claim-is ∙ closes before.boot (calls_of before.boot before.entries) calls claim (stop_of calls) next none in
-        finish None [] same less still (no-runs made_before made faults_before faults (going_on p e None [] q.room) after still) (omega arith)
+        finish None [] same less still (no-runs made_before made faults_before faults (going_on p (unmoved e) None [] q.room) after still) (omega arith)
 
     -- the claim goes on with its next run
     next-steps : (other : Taken) → GoesOn before after p0.number claim calls other
-        → q ≡ going_on p (entry_at r.turned (event.Report r.run calls (stopped_at end) (first_of later)) None) (Some other) later q.room
-        → Stepped_to p q made_before made faults_before faults kept before after
+        → q ≡ going_on p (unmoved (entry_at r.turned place.Memory (event.Report r.run calls (stopped_at end) (first_of later)) None)) (Some other) later q.room
+        → Stepped_to p q made_before made faults_before faults kept areas before after
     next-steps other goes course =
         let stop = not-stopped before.boot claim (stop_of calls) goes.run goes.next in
         let b = next-behind before.boot claim (stop_of calls) later goes.run runs-are.1 goes.next in
         let first : first_of later ≡ next = ap first_of b.are ∙ sym goes.next in
         let open_still : told ≡ None = open-untold for_block (stop_of calls) next cleared goes.run stop goes.next in
-        let same : q ≡ going_on p e (Some other) later q.room = course ∙ ap (λ (x : Entry). let y : Progressed = going_on p x (Some other) later q.room in y) (entry-is later None first (sym open_still)) in
+        let same : q ≡ going_on p (unmoved e) (Some other) later q.room = course ∙ ap (λ (x : Moved). let y : Progressed = going_on p x (Some other) later q.room in y) (entry-is later None first (sym open_still)) in
         let claim' = next_claim before.boot (calls_of before.boot before.entries) calls claim goes.run in
         let claimed : claim_of before.boot after.entries p0.number ≡ Some claim' = claim-is ∙ continues before.boot (calls_of before.boot before.entries) calls claim (stop_of calls) next goes.run stop goes.next in
         let count = count-open open_still in
@@ -300,12 +307,12 @@ module _ (made_before made : List ModuleCall) (faults_before faults kept : ℕ) 
         let low = pages-low before.boot claim.run span.ticket.pages size some pages span-low in
         let here_first = ap (λ (x : Pages). x.first) pages in
         let there_first = ap (λ (x : Pages). x.first) there in
-        let less = less-next (length p0.script) (replied (moved_in p0)) span other (omega (arith, behind, here_first, there_first)) low in
+        let less = less-next (length p0.script) (replied p0.moved) span other (omega (arith, behind, here_first, there_first)) low in
         let by_count = ap (λ n. left_by (length p0.script) n (Some other)) count in
         let more = no-more in
         let left = left-in (Some other) (omega (arith, by_count, less, more)) in
-        let now : command_of (going_on p e (Some other) later q.room) ≡ Some h.claiming.command = ap (slice_get p0.script) count ∙ h.claiming.present in
-        let claiming : Claiming (see (going_on p e (Some other) later q.room)) after claim' other = record {
+        let now : command_of (going_on p (unmoved e) (Some other) later q.room) ≡ Some h.claiming.command = ap (slice_get p0.script) count ∙ h.claiming.present in
+        let claiming : Claiming (see (going_on p (unmoved e) (Some other) later q.room)) after claim' other = record {
           claimed = claimed;
           handed = record { ticket = other.ticket; room = goes.out.room };
           is_handed = goes.out.handed;
@@ -313,9 +320,9 @@ module _ (made_before made : List ModuleCall) (faults_before faults kept : ℕ) 
           some = b.some;
           command = h.claiming.command;
           present = now;
-          fine = fine-behind before.boot p0.script p0.entries e h.claiming.command claim.block h.claiming.claims (λ name own. refl) open_still h.claiming.present h.claiming.fine;
+          fine = fine-behind before.boot p0.script p0.moved (unmoved e) h.claiming.command claim.block h.claiming.claims (λ name own. refl) open_still h.claiming.present h.claiming.fine;
           claims = h.claiming.claims;
-          clock = clock-low p0.entries before.entries after.entries e refl r.appends.entries;
+          clock = clock-low p0.moved before.entries after.entries e refl r.appends.entries;
         } in
         let handed : IsAsHanded after p0.number claim' other = record {
           before = after.entries;
@@ -326,7 +333,7 @@ module _ (made_before made : List ModuleCall) (faults_before faults kept : ℕ) 
         } in
         let R : List Units → Type 0 = λ rs. RunsAre before.boot claim' rs in
         let are : RunsAre before.boot claim' later = subst R (sym b.are) (refl, b.runs) in
-        let stand : RunsStand (going_on p e (Some other) later q.room) after = (λ x has. (let C : Claimed → Type 0 = λ y. RunsAre before.boot y later in subst C (same-claimed (claim_of before.boot after.entries p0.number) claim' x claimed has) are)) in
+        let stand : RunsStand (going_on p (unmoved e) (Some other) later q.room) after = (λ x has. (let C : Claimed → Type 0 = λ y. RunsAre before.boot y later in subst C (same-claimed (claim_of before.boot after.entries p0.number) claim' x claimed has) are)) in
         let O : Option Accepted → Type 0 = λ d. calls_owed before.boot d p0.runs ≤ kept in
         finish (Some other) later same left (claim', claiming, handed) stand (subst O h.done h.stands.port)
       where
@@ -339,9 +346,9 @@ module _ (made_before made : List ModuleCall) (faults_before faults kept : ℕ) 
         span-low : LieInMemory span.ticket.pages
         span-low = let L : Taken → Type 0 = λ s. LieInMemory s.ticket.pages in subst L (sym same-span) r.low
 
-    by-answer : (reported : Reported) → ReportedBy before after (turn_of p0.number p0.entries) claim calls reported
-        → q ≡ going_on p (entry_at r.turned (event.Report r.run calls (stopped_at end) (first_of (runs_with (span_of_report reported) later))) (reply_of_report for_block reported)) (span_of_report reported) (runs_with (span_of_report reported) later) q.room
-        → Stepped_to p q made_before made faults_before faults kept before after
+    by-answer : (reported : Reported) → ReportedBy before after (turn_of p0.number p0.moved) claim calls reported
+        → q ≡ going_on p (unmoved (entry_at r.turned place.Memory (event.Report r.run calls (stopped_at end) (first_of (runs_with (span_of_report reported) later))) (reply_of_report for_block reported))) (span_of_report reported) (runs_with (span_of_report reported) later) q.room
+        → Stepped_to p q made_before made faults_before faults kept areas before after
     by-answer (Next other) by course = next-steps other by course
     by-answer (Closed count) by course =
         closed-steps (reply_of_report for_block (Closed count)) by.1 (closed-told for_block (stop_of calls) next cleared count by.0 by.1 by.2) (left-closed for_block refl by.0 by.1 by.4) course
@@ -349,15 +356,15 @@ module _ (made_before made : List ModuleCall) (faults_before faults kept : ℕ) 
         let told_module = stopped-module for_block (stop_of calls) next cleared by.0 in
         closed-steps (Some reply.Module) (stopped-none before.boot claim (stop_of calls) by.0) told_module (left-ended reply.Module told_module) course
 
-    pub report-at : Stepped_to p q made_before made faults_before faults kept before after
+    pub report-at : Stepped_to p q made_before made faults_before faults kept areas before after
     report-at = by-answer r.reported r.by r.course
 
 -- the same, of a processor of the memory's boot
-pub report-steps : (p q : Progressed) (made_before made : List ModuleCall) (faults_before faults kept : ℕ) (before after : MemoryValue) (claim : Claimed) (span : Taken) (calls : List ModuleCall) (end : RunEnd) → ReportOver p q made_before made faults_before faults kept before after claim span calls end → Stepped_to p q made_before made faults_before faults kept before after
-report-steps p q made_before made faults_before faults kept before after claim span calls end h =
-    let T : Boot → Type 0 = λ b. ReportOver (record p { boot = b }) q made_before made faults_before faults kept before after claim span calls end → Stepped_to (record p { boot = b }) q made_before made faults_before faults kept before after in
-    let here : T before.boot = (λ x. report-at made_before made faults_before faults kept p q before after claim span calls end x) in
-    let there : T p.boot = subst T h.stands.stands.same here in
+pub report-steps : (p q : Progressed) (made_before made : List ModuleCall) (faults_before faults kept : ℕ) (areas : List AreaValue) (before after : MemoryValue) (claim : Claimed) (span : Taken) (calls : List ModuleCall) (end : RunEnd) → ReportOver p q made_before made faults_before faults kept areas before after claim span calls end → Stepped_to p q made_before made faults_before faults kept areas before after
+report-steps p q made_before made faults_before faults kept areas before after claim span calls end h =
+    let T : Boot → Type 0 = λ b. ReportOver (record p { boot = b }) q made_before made faults_before faults kept areas before after claim span calls end → Stepped_to (record p { boot = b }) q made_before made faults_before faults kept areas before after in
+    let here : T before.boot = (λ x. report-at made_before made faults_before faults kept p q areas before after claim span calls end x) in
+    let there : T p.boot = subst T h.stands.stands.same.memory here in
     there h
 
 -- ---- what may be reported
@@ -390,16 +397,16 @@ pub record Worked (p : Progressed) (made_before made : List ModuleCall) (faults_
   pub claiming : Claiming (seen_with p made_before made faults_before faults) memory claim span
   pub may : Reportable p memory
 
-pub worked-may : (p : Progressed) (made_before made : List ModuleCall) (faults_before faults kept : ℕ) (memory : MemoryValue) → CourseStands p made_before made faults_before faults kept memory → p.out ≢ None → p.done ≢ None → Worked p made_before made faults_before faults memory
-worked-may p made_before made faults_before faults kept memory s is_out is_done =
+pub worked-may : (p : Progressed) (made_before made : List ModuleCall) (faults_before faults kept : ℕ) (areas : List AreaValue) (memory : MemoryValue) → CourseStands p made_before made faults_before faults kept (ground_of memory areas) → p.out ≢ None → p.done ≢ None → Worked p made_before made faults_before faults memory
+worked-may p made_before made faults_before faults kept areas memory s is_out is_done =
     let out = some-of p.out is_out in
     let done = some-of p.done is_done in
     let c = seen_with p made_before made faults_before faults in
     let at = out-claims c memory p.out p.done out.0 done.0 s.stands.out out.1 done.1 in
     let claiming = at.1 in
-    let boot = s.stands.same in
+    let boot = s.stands.same.memory in
     let claimed : claim_of memory.boot memory.entries p.number ≡ Some at.0 = ap (λ (b : Boot). claim_of b memory.entries p.number) boot ∙ claiming.claimed in
-    let more = slice_get_within p.script (replied (moved_in p)) claiming.command claiming.present in
+    let more = slice_get_within p.script (replied p.moved) claiming.command claiming.present in
     let few = s.stands.readable.few in
     let low = claiming.clock in
     let R : Boot → Type 0 = λ b. RunsAre b at.0 p.runs in
@@ -431,13 +438,13 @@ worked-may p made_before made faults_before faults kept memory s is_out is_done 
     }
 
 -- a report by a processor that stands
-pub report-all : (p q : Progressed) (made_before made : List ModuleCall) (faults_before faults kept : ℕ) (before after : MemoryValue) → CourseStands p made_before made faults_before faults kept before → p.out ≢ None → p.done ≢ None
+pub report-all : (p q : Progressed) (made_before made : List ModuleCall) (faults_before faults kept : ℕ) (areas : List AreaValue) (before after : MemoryValue) → CourseStands p made_before made faults_before faults kept (ground_of before areas) → p.out ≢ None → p.done ≢ None
     → ((calls : List ModuleCall) (end : RunEnd) → p.done ≡ Some (accepted_by calls end) → (claim : Claimed) → claim_of before.boot before.entries p.number ≡ Some claim → Reports p q before after claim calls end)
-    → Stepped_to p q made_before made faults_before faults kept before after
-report-all p q made_before made faults_before faults kept before after s is_out is_done reports =
-    let w = worked-may p made_before made faults_before faults kept before s is_out is_done in
-    let claimed : claim_of before.boot before.entries p.number ≡ Some w.claim = ap (λ (b : Boot). claim_of b before.entries p.number) s.stands.same ∙ w.claiming.claimed in
-    report-steps p q made_before made faults_before faults kept before after w.claim w.span w.calls w.end (record {
+    → Stepped_to p q made_before made faults_before faults kept areas before after
+report-all p q made_before made faults_before faults kept areas before after s is_out is_done reports =
+    let w = worked-may p made_before made faults_before faults kept areas before s is_out is_done in
+    let claimed : claim_of before.boot before.entries p.number ≡ Some w.claim = ap (λ (b : Boot). claim_of b before.entries p.number) s.stands.same.memory ∙ w.claiming.claimed in
+    report-steps p q made_before made faults_before faults kept areas before after w.claim w.span w.calls w.end (record {
       stands = s;
       out = w.out;
       done = w.done;

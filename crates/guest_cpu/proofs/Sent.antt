@@ -5,7 +5,7 @@ use Rattle.std.proofs.Crossing.{crosses}
 use Rattle.guest_base.proofs.list.Items.TheSendSync as items
 use Rattle.guest_base.proofs.memory.HostRun.TheSendSync as host
 use Rattle.event_core.proofs.command.Command.TheSendSync as command
-use Rattle.held_blocks.proofs.held.HeldBlocks.TheSendSync as held
+use Rattle.held_blocks.proofs.holdings.Holdings.TheSendSync as held
 use Rattle.guest_cpu.proofs.made.MadeEntries.TheSendSync as made
 use Rattle.guest_cpu.proofs.progress.RunRoom.TheSendSync as room
 use Rattle.guest_cpu.proofs.progress.OpenRun.TheSendSync as open_run

@@ -1,8 +1,7 @@
-use Rattle.std.proofs.Common.{◌≡◌, ℕ, ◌+◌, ◌*◌, ◌-◌, ◌≤◌, ◌<◌, Bool, true, false, ◌||◌, None, Some, List, [], ◌∷◌, ◌++◌, refl, sym, ◌∙◌, ap, inl, inr, arith, append_assoc, append-nil, cond, map, lit<}
+use Rattle.std.proofs.Common.{◌≡◌, ℕ, ◌+◌, ◌*◌, ◌-◌, ◌≤◌, ◌<◌, Bool, true, false, ◌||◌, None, Some, List, [], ◌∷◌, ◌++◌, refl, sym, ◌∙◌, ap, inl, inr, arith, append_assoc, append-nil, cond, lit<}
 use Rattle.std.specs.Prelude.{is_some}
 use Rattle.std.proofs.lemmas.Bool.{cases_Bool, cases_lt}
 use Rattle.std.proofs.lemmas.Grind.{flat_map-append}
-use Rattle.std.proofs.lemmas.List.{map-append}
 use Rattle.std.proofs.lemmas.List.Folds.{list_any-append}
 use Rattle.std.proofs.lemmas.List.Sums.{fold-append}
 use Rattle.guest_base.specs.Counts.{Rose}
@@ -11,7 +10,6 @@ use Rattle.event_core.specs.declared.module_call.ModuleCall.{ModuleCall}
 use Rattle.event_core.specs.Calls.{calls_in}
 use Rattle.event_core.specs.Moved.{Moved}
 use Rattle.event_core.specs.Own.{replied}
-use Rattle.memory_core.specs.UnderLock.{unmoved}
 use Rattle.page_module.specs.Spans.{Taken}
 use Rattle.guest_base.specs.declared.limits.TheConstants.{PAGE_END}
 use Rattle.guest_steps.specs.Replies.{FaultsTold, calls_reported, is_module, some_module}
@@ -64,10 +62,8 @@ told-push entries e before after told last some =
           told (sym none ∙ sym parts ∙ some))
     ]
 
-pub replied-push : (entries : List Entry) (e : Entry) → replied (map unmoved (entries ++ e ∷ [])) ≡ replied (map unmoved entries) + cond (is_some e.reply) 1 0
-replied-push entries e =
-    ap replied (map-append unmoved entries (e ∷ []))
-    ∙ fold-append (λ (n : ℕ) (m : Moved). n + cond (is_some m.entry.reply) 1 0) 0 (map unmoved entries) (unmoved e ∷ [])
+pub replied-push : (moved : List Moved) (m : Moved) → replied (moved ++ m ∷ []) ≡ replied moved + cond (is_some m.entry.reply) 1 0
+replied-push moved m = fold-append (λ (n : ℕ) (x : Moved). n + cond (is_some x.entry.reply) 1 0) 0 moved (m ∷ [])
 
 -- ---- steps that are left
 

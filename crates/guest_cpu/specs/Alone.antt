@@ -7,7 +7,7 @@ use Rattle.event_core.specs.declared.reply.Reply.{Reply}
 use Rattle.event_core.specs.declared.reply.Reply.TheVariants as reply
 use Rattle.event_core.specs.Bytes.{row_of}
 use Rattle.event_core.specs.Holdings.{Holding, Own, block_named}
-use Rattle.event_core.specs.Own.{after_write}
+use Rattle.event_core.specs.Own.{after_write, ended}
 use Rattle.event_core.specs.Refusals.{refusal_of}
 use Rattle.std.specs.List.{repeat}
 use Rattle.guest_cpu.specs.Progressing.{Progressed, command_of, own_in}
@@ -20,7 +20,7 @@ abbrev pub told_of : Own → List ℕ → (Holding → Reply) → Option Reply
 told_of own name tell = option_map tell (block_named own name)
 
 -- the reply of a command that isn't refused and ends by the processor alone: bytes of its blocks,
--- or that they are written
+-- that they are written, or that its mapping doesn't ask for the copy
 abbrev pub reply_alone : Own → Command → Option Reply
 reply_alone own (command.Read name off len) =
     told_of own name (λ (h : Holding). reply.Hex (row_of h.bytes off len))
@@ -28,6 +28,8 @@ reply_alone own (command.Write name off hex) = Some reply.Done
 reply_alone own (command.Fill name off len byte) = Some reply.Done
 reply_alone own (command.Load name off) =
     told_of own name (λ (h : Holding). reply.Loaded (row_of h.bytes off 8) None)
+reply_alone own (command.SyncDev mapping off len) = Some reply.Done
+reply_alone own (command.SyncCpu mapping off len) = Some reply.Done
 reply_alone own _ = None
 
 abbrev pub refusal_or : Option Reply → Option Reply → Option Reply
@@ -38,12 +40,15 @@ refusal_or None told = told
 abbrev pub alone_reply : Boot → Own → Command → Option Reply
 alone_reply boot own c = refusal_or (refusal_of boot own c) (reply_alone own c)
 
--- what a processor has behind such a command with this reply
-abbrev pub own_behind : Command → Option Reply → Own → Own
-own_behind (command.Write name off hex) told own = after_write name off hex told own
-own_behind (command.Fill name off len byte) told own =
+-- what a processor has behind such a command with this reply, but for the looks, and with them
+abbrev pub own_written : Command → Option Reply → Own → Own
+own_written (command.Write name off hex) told own = after_write name off hex told own
+own_written (command.Fill name off len byte) told own =
     after_write name off (repeat len (byte ∷ [])) told own
-own_behind _ told own = own
+own_written _ told own = own
+
+abbrev pub own_behind : Command → Option Reply → Own → Own
+own_behind c told own = ended told (own_written c told own)
 
 -- the present command ended by the processor alone
 pub record EndsAlone (old new : Progressed) : Type 0 where
@@ -52,6 +57,6 @@ pub record EndsAlone (old new : Progressed) : Type 0 where
   pub told : Reply
   pub replies : alone_reply old.boot (own_in old) present ≡ Some told
   pub after : new ≡ record old {
-    entries = old.entries ++ own_entry old told ∷ [];
+    moved = old.moved ++ own_entry old told ∷ [];
     room = new.room;
   }

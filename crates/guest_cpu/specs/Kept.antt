@@ -1,4 +1,5 @@
-use Rattle.std.specs.Prelude.{ℕ, List, [], ◌∷◌, Option, None, Some, ◌≡◌, ◌≤◌, All, length, map}
+use Rattle.std.specs.Prelude.{ℕ, List, [], ◌∷◌, Option, None, Some, ◌≡◌, ◌<◌, ◌≤◌, All, length, map}
+use Rattle.std.specs.Option.{ForSome}
 use Rattle.guest_base.specs.declared.memory.HostRun.{HostRun}
 use Rattle.guest_base.specs.declared.memory.Units.{Units}
 use Rattle.event_core.specs.declared.boot.Boot.{Boot}
@@ -7,9 +8,10 @@ use Rattle.event_core.specs.declared.module_call.ModuleCall.{ModuleCall}
 use Rattle.event_core.specs.MemoryRows.{pages_count}
 use Rattle.event_core.specs.Own.{own_of}
 use Rattle.event_core.specs.ReadableScript.{ReadableScript}
-use Rattle.block_laws.specs.BlockScripts.{IsOfBlocks}
-use Rattle.held_blocks.specs.Held.{Held, owned}
-use Rattle.memory_core.specs.UnderLock.{unmoved}
+use Rattle.block_laws.specs.Unconverting.{ConvertsNothing}
+use Rattle.dma_map.specs.Pools.{HasPool, IsLayout}
+use Rattle.dma_map.specs.declared.pool.Layout.{Layout}
+use Rattle.held_blocks.specs.Holdings.{HoldingsValue, own_in as own_held}
 use Rattle.page_module.specs.Spans.{LieInMemory, Taken}
 use Rattle.accept_sizes.specs.declared.accept.RunEnd.{RunEnd}
 use Rattle.accept_sizes.specs.Room.{most_calls_of}
@@ -71,14 +73,21 @@ abbrev pub RestsBare : Option OpenRun → List RunRoom → Type 0
 RestsBare None later = later ≡ []
 RestsBare (Some open_run) later = Unit {0}
 
--- What a processor keeps: the host records of its boot, the blocks that its entries tell of, and
--- room for the reports of the runs of its claim.
+-- the looks for the present mapping are fewer than the areas
+abbrev pub HasFewLooks : HoldingsValue → Type 0
+HasFewLooks held = ForSome held.layout (λ (l : Layout). held.looks < l.areas)
+
+-- What a processor keeps: the host records and the layout of the pool of its boot, what its entries
+-- tell that it has, and room for the reports of the runs of its claim.
 pub record Keeps (boot : Boot) (hosts : List HostRun) (script : List Command) (made : Made)
-    (held : Held) (open_run : Option OpenRun) (later : List RunRoom) : Type 0 where
+    (held : HoldingsValue) (open_run : Option OpenRun) (later : List RunRoom) : Type 0 where
   pub same_hosts : hosts ≡ boot.hosts
-  pub of_blocks : All IsOfBlocks script
+  pub pool : HasPool boot held.layout
+  pub laid_out : ForSome held.layout IsLayout
+  pub looks : HasFewLooks held
+  pub unconverting : All ConvertsNothing script
   pub readable : ReadableScript script
-  pub holds : own_of script (map unmoved made.entries) ≡ owned held
+  pub holds : own_of script made.moved ≡ own_held held
   pub reports : length (runs_of open_run later) ≤ made.room
   pub rooms : All (HasRoom boot) later
   pub room : RoomOf boot open_run

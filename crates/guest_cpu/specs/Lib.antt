@@ -1,13 +1,16 @@
 pub mod Made
+pub mod Layouts
 pub mod Progressing
 pub mod Kept
 pub mod Wanting
 pub mod Alone
 pub mod Stepping
+pub mod Accessing
 pub mod Rooms
 pub mod Working
 pub mod Standing
 pub mod Found
 pub mod Resting
+pub mod Leaving
 pub mod Looking
 pub mod Blocks

@@ -25,7 +25,7 @@ pub record Ended (old new : Progressed) (before after : MemoryValue) (event : Ev
     (ended : Stepped) : Type 0 where
   pub is : ended ≡ stepped.Event
   pub adds : Adds old new before after event (Some told)
-  pub same : new ≡ record old { entries = new.entries; room = new.room }
+  pub same : new ≡ record old { moved = new.moved; room = new.room }
 
 -- the processor has to come again, and nothing has changed
 pub record ComesAgain (old new : Progressed) (before after : MemoryValue) (ended : Stepped)
@@ -56,6 +56,6 @@ DidLook old new before after runs ended (look.InFlight cpu) =
 pub record LooksFor (old new : Progressed) (before after : MemoryValue) (order : ℕ)
     (runs : List Units) (ended : Stepped) : Type 0 where
   pub looked : Look
-  pub by : LookedBy before after (turn_of old.number old.entries) order looked
+  pub by : LookedBy before after (turn_of old.number old.moved) order looked
   pub did : DidLook old new before after runs ended looked
   pub others : OthersKeep before after old.number

@@ -12,5 +12,5 @@ pub record StepsOn (c : Seen) (memory : MemoryValue) (command : Command) : Type 
   pub rests : c.out ≡ None
   pub present : present_command c ≡ Some command
   pub fine : refusal_of c.boot (own_now c) command ≡ None
-  pub need : need_unrefused (own_now c) command ≡ Memory
+  pub need : need_unrefused c.boot c.number (own_now c) command ≡ Memory
   pub fresh : stamp_before c memory < 2 ^ 64

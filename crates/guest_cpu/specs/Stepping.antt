@@ -13,6 +13,7 @@ use Rattle.event_core.specs.Acceptance.{stop_of}
 use Rattle.event_core.specs.Calls.{calls_of}
 use Rattle.event_core.specs.Claims.{Claimed, claim_of}
 use Rattle.event_core.specs.Legal.{greatest_stamp}
+use Rattle.event_core.specs.Moved.{Moved}
 use Rattle.event_core.specs.MemoryRows.{next_run, report_event, run_of_claim}
 use Rattle.event_core.specs.Next.{claim_reply}
 use Rattle.event_core.specs.Own.{replied}
@@ -29,11 +30,12 @@ use Rattle.memory_core.specs.declared.memory.Begin.TheVariants.{Clear, Claimed a
 use Rattle.memory_core.specs.declared.memory.Reported.{Reported}
 use Rattle.memory_core.specs.declared.memory.Reported.TheVariants.{Next, Closed, Stopped}
 use Rattle.page_module.specs.Spans.{LieInMemory, Taken}
-use Rattle.guest_steps.specs.Steps.{memory_after}
+use Rattle.memory_core.specs.UnderLock.{unmoved}
+use Rattle.guest_steps.specs.Steps.{without_reply}
 use Rattle.guest_steps.specs.declared.processor.Stepped.{Stepped}
 use Rattle.guest_steps.specs.declared.processor.Stepped.TheVariants as stepped
 use Rattle.guest_cpu.specs.Made.{entry_at, turn_of}
-use Rattle.guest_cpu.specs.Progressing.{Progressed, command_of, moved_in}
+use Rattle.guest_cpu.specs.Progressing.{Progressed, command_of}
 use Rattle.guest_cpu.specs.Wanting.{is_alloc}
 
 -- What a step does to a processor's course.
@@ -44,8 +46,8 @@ pub record MayStep (p : Progressed) (memory : MemoryValue) : Type 0 where
   pub cpu : p.number < p.boot.cpus
   pub rests : p.out ≡ None
   pub free : claim_of p.boot memory.entries p.number ≡ None
-  pub few : replied (moved_in p) < 2 ^ 32
-  pub clock : greatest_stamp (moved_in p) < 2 ^ 64
+  pub few : replied p.moved < 2 ^ 32
+  pub clock : greatest_stamp p.moved < 2 ^ 64
   pub last : last_stamp memory.entries < 2 ^ 64
 
 -- nothing changed but the room for entries
@@ -53,21 +55,21 @@ abbrev pub OnlyRoom : Progressed → Progressed → Type 0
 OnlyRoom old new = (new ≡ record old { room = new.room }) × (old.room ≤ new.room)
 
 -- an entry of the processor's present command that it makes by itself, and under the memory's lock
-abbrev pub own_entry : Progressed → Reply → Entry
-own_entry p told = record {
-  stamp = greatest_stamp (moved_in p) + 1;
+abbrev pub own_entry : Progressed → Reply → Moved
+own_entry p told = unmoved (record {
+  stamp = greatest_stamp p.moved + 1;
   cpu = record { 0 = p.number };
-  cmd = replied (moved_in p);
+  cmd = replied p.moved;
   place = place.Own;
   event = event.Own;
   reply = Some told;
-}
+})
 
 abbrev pub memory_entry : Progressed → MemoryValue → Event → Option Reply → Entry
 memory_entry p memory event reply = record {
-  stamp = max (greatest_stamp (moved_in p)) (last_stamp memory.entries) + 1;
+  stamp = max (greatest_stamp p.moved) (last_stamp memory.entries) + 1;
   cpu = record { 0 = p.number };
-  cmd = replied (moved_in p);
+  cmd = replied p.moved;
   place = place.Memory;
   event = event;
   reply = reply;
@@ -79,9 +81,10 @@ pub record Adds (old new : Progressed) (before after : MemoryValue) (event : Eve
   pub boot : new.boot ≡ old.boot
   pub number : new.number ≡ old.number
   pub script : new.script ≡ old.script
-  pub entries : new.entries ≡ old.entries ++ memory_entry old before event reply ∷ []
+  pub moved : new.moved ≡ old.moved ++ unmoved (memory_entry old before event reply) ∷ []
   pub same : after.boot ≡ before.boot
-  pub memory : after.entries ≡ memory_after before.entries (memory_entry old before event reply)
+  pub memory : after.entries
+      ≡ before.entries ++ without_reply (memory_entry old before event reply) ∷ []
   pub others : OthersKeep before after old.number
 
 -- the runs are those of unaccepted units among these, after the memory's entries
@@ -101,9 +104,9 @@ first_of [] = None
 first_of (run ∷ later) = Some run
 
 -- the course goes on behind an entry with these runs, of which the first is out in the span, if any
-abbrev pub going_on : Progressed → Entry → Option Taken → List Units → ℕ → Progressed
-going_on p entry span runs room = record p {
-  entries = p.entries ++ entry ∷ [];
+abbrev pub going_on : Progressed → Moved → Option Taken → List Units → ℕ → Progressed
+going_on p m span runs room = record p {
+  moved = p.moved ++ m ∷ [];
   out = span;
   done = None;
   runs = runs;
@@ -134,10 +137,10 @@ abbrev pub reply_of_claim : Option Block → Option Units → Option Reply
 reply_of_claim None run = claim_reply run
 reply_of_claim (Some block) run = None
 
-abbrev pub claim_made : Turn → Option Block → Option Units → List Units → Entry
+abbrev pub claim_made : Turn → Option Block → Option Units → List Units → Moved
 claim_made turned block units runs =
     let run = first_of runs in
-    entry_at turned (event.Claim block units run) (reply_of_claim block run)
+    unmoved (entry_at turned place.Memory (event.Claim block units run) (reply_of_claim block run))
 
 -- units were claimed, of which these are the unaccepted runs
 pub record ClaimMade (old new : Progressed) (before after : MemoryValue) (block : Option Block)
@@ -146,7 +149,7 @@ pub record ClaimMade (old new : Progressed) (before after : MemoryValue) (block 
   pub is : ended ≡ stepped.Event
   pub turned : Turn
   pub appends :
-      Appends before after (turn_of old.number old.entries) turned
+      Appends before after (turn_of old.number old.moved) turned
       (event.Claim block units (run_of_claim before.boot before.entries units))
   pub course : new ≡ going_on old (claim_made turned block units (runs_with span runs)) span
       (runs_with span runs) new.room
@@ -155,7 +158,7 @@ pub record ClaimMade (old new : Progressed) (before after : MemoryValue) (block 
 pub record Begins (old new : Progressed) (before after : MemoryValue) (start len : ℕ)
     (runs : List Units) (ended : Stepped) : Type 0 where
   pub begin : Begin
-  pub begun : BegunBy before after (turn_of old.number old.entries)
+  pub begun : BegunBy before after (turn_of old.number old.moved)
       (guarded_units before.boot start len) begin
   pub blocked : IsBlocked begin
       → (ended ≡ stepped.Blocked) × (new ≡ old) × (after ≡ before)
@@ -170,8 +173,8 @@ pub record Reportable (p : Progressed) (memory : MemoryValue) : Type 0 where
   pub calls : List ModuleCall
   pub end : RunEnd
   pub done : p.done ≡ Some (record { calls = calls; end = end })
-  pub few : replied (moved_in p) < 2 ^ 32
-  pub may : MayReport memory (turn_of p.number p.entries) span calls end
+  pub few : replied p.moved < 2 ^ 32
+  pub may : MayReport memory (turn_of p.number p.moved) span calls end
   pub next : (run : Units) → next_run memory.boot may.claim (stop_of calls) ≡ Some run
       → drop 1 p.runs ≢ []
 
@@ -185,14 +188,14 @@ pub record Reports (old new : Progressed) (before after : MemoryValue) (claim : 
   pub run : Units
   pub first : old.runs ≡ run ∷ drop 1 old.runs
   pub turned : Turn
-  pub appends : Appends before after (turn_of old.number old.entries) turned
+  pub appends : Appends before after (turn_of old.number old.moved) turned
       (report_event before.boot claim calls)
   pub reported : Reported
-  pub by : ReportedBy before after (turn_of old.number old.entries) claim calls reported
+  pub by : ReportedBy before after (turn_of old.number old.moved) claim calls reported
   pub course :
       let span = span_of_report reported in
       let later = runs_with span (drop 1 old.runs) in
       let event = event.Report run calls (stopped_at end) (first_of later) in
       let reply = reply_of_report (is_alloc (command_of old)) reported in
-      new ≡ going_on old (entry_at turned event reply) span later new.room
+      new ≡ going_on old (unmoved (entry_at turned place.Memory event reply)) span later new.room
   pub others : OthersKeep before after old.number

@@ -13,6 +13,11 @@ as_command (wanted.Alloc name order) = command.Alloc name order
 as_command (wanted.Free name) = command.Free name
 as_command (wanted.Stray name off) = command.Load name off
 
+-- whether a command maps bytes of a block
+abbrev pub is_map : Command → Bool
+is_map (command.Map mapping name off len direction mask) = true
+is_map _ = false
+
 -- whether a command allocates, so that its claims are for blocks
 abbrev pub is_alloc : Option Command → Bool
 is_alloc (Some (command.Alloc name order)) = true

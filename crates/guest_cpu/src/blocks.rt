@@ -9,7 +9,7 @@ ghost use Rattle.event_core.specs.OwnRows.{is_inside, page_behind, strayed_bytes
 ghost use Rattle.event_core.specs.Refusals.{refusal_of};
 ghost use Rattle.guest_steps.specs.Seen.{need_unrefused};
 ghost use Rattle.guest_steps.specs.declared.processor.Need.TheVariants as need;
-ghost use Rattle.held_blocks.specs.Held.{IsInMemory, owned};
+ghost use Rattle.held_blocks.specs.Held.{IsInMemory};
 ghost use Rattle.memory_core.specs.Owners.{is_owner};
 ghost use Rattle.memory_core.specs.Steps.{unaccepted_count};
 ghost use Rattle.memory_core.specs.Waiting.{waiting_units};
@@ -20,27 +20,14 @@ ghost use Rattle.guest_cpu.specs.Progressing.{command_of, own_in};
 ghost use Rattle.guest_cpu.specs.Stepping.{AreRunsAmong, MayStep};
 
 use crate::progress::{Progress, RunRoom};
+use crate::steps::add_there;
 use event_core::{Event, Name, Reply};
 use guest_base::limits::PAGE_BYTES;
 use guest_base::{Block, Bytes, Page};
 use guest_steps::Stepped;
-use held_blocks::HeldBlocks;
 use memory_core::{Look, Memory};
 use std::alloc::{AllocError, Global};
 use std::collections::VecDeque;
-
-/// The block of a name that has one.
-fn named(held: &HeldBlocks, name: &Name) -> Block
-    requires { IsSome (block_named (owned held.now) name.now) }
-    ensures named { option_map (λ h. h.block) (block_named (owned held.now) name.now)
-        ≡ Some result }
-    ensures memory { IsInMemory result }
-{
-    match held.block_of(name) {
-        Some(block) => block,
-        None => unreachable!(),
-    }
-}
 
 /// The page behind a block.
 fn behind(block: Block) -> Page
@@ -62,22 +49,29 @@ impl Progress {
         requires memory_room { 0 < memory.old.room }
         ensures frees { FreesNamed self.old self.new memory.old memory.new name.now }
         ensures same { self.new ≡ record self.old {
-          entries = self.new.entries;
+          moved = self.new.moved;
           room = self.new.room;
         } }
     {
-        let block = named(&self.held, name);
+        let block = self.held.named(name);
         let mut turn = self.made.turn(self.number);
         memory.free(&mut turn, block);
         self.held.freed(name);
-        self.made
-            .add_there(turn, Event::Freed { block }, Some(Reply::Done));
+        let event = Event::Freed { block };
+        add_there(
+            &mut self.held,
+            &mut self.made,
+            turn,
+            event,
+            Some(Reply::Done),
+        );
     }
 
     /// The bytes of a load that ends past the block of a name: the present command. `AllocError` is out of memory.
     pub(crate) fn strayed(&self, alloc: Global, name: &Name, off: u64) -> Result<Bytes, AllocError>
         requires fine { refusal_of self.now.boot (own_in self.now) (Load name.now off) ≡ None }
-        requires need { need_unrefused (own_in self.now) (Load name.now off) ≡ need.Memory }
+        requires need { need_unrefused self.now.boot self.now.number (own_in self.now)
+            (Load name.now off) ≡ need.Memory }
         ensures { IfOk result (λ bytes. ForSome (block_named (own_in self.now) name.now)
             (λ h. bytes ≡ strayed_bytes h off)) }
     {
@@ -97,16 +91,16 @@ impl Progress {
         requires memory_room { 0 < memory.old.room }
         ensures strays { StraysFrom self.old self.new memory.old memory.new name.now off }
         ensures same { self.new ≡ record self.old {
-          entries = self.new.entries;
+          moved = self.new.moved;
           room = self.new.room;
         } }
     {
-        let page = behind(named(&self.held, name));
+        let page = behind(self.held.named(name));
         let mut turn = self.made.turn(self.number);
         let found = memory.load_touch(&mut turn, page);
         let event = Event::Touched { page, found };
-        self.made
-            .add_there(turn, event, Some(Reply::Loaded(bytes, Some(found))));
+        let reply = Some(Reply::Loaded(bytes, Some(found)));
+        add_there(&mut self.held, &mut self.made, turn, event, reply);
     }
 
     /// Looks for a block of an order: the present command, with room for all unaccepted runs of the lowest waiting block. After
@@ -120,6 +114,7 @@ impl Progress {
         rooms: VecDeque<RunRoom>,
     ) -> Result<Stepped, AllocError>
         requires command { command_of self.old ≡ Some (Alloc name order) }
+        requires fine { refusal_of self.old.boot (own_in self.old) (Alloc name order) ≡ None }
         requires order { order ≤ MAX_ORDER }
         requires owned { All (λ (block : BlockValue).
             is_owner memory.old.entries self.old.number block ≡ true)
@@ -135,20 +130,20 @@ impl Progress {
             order (runs_in rooms.items) ended) }
         ensures refused { OnErr result ((self.new ≡ self.old) × (memory.new ≡ memory.old)) }
     {
-        self.held.reserve()?;
+        self.held.reserve_block()?;
         let (block, units) = (memory.waiting_block(), memory.waiting_units());
         let mut turn = self.made.turn(self.number);
         match memory.alloc_look(&mut turn, order) {
             Look::Got(block) => {
                 self.held.got(alloc, name, block);
-                let address = Reply::Addr(PAGE_BYTES * block.first);
-                self.made
-                    .add_there(turn, Event::Got { block }, Some(address));
+                let event = Event::Got { block };
+                let reply = Some(Reply::Addr(PAGE_BYTES * block.first));
+                add_there(&mut self.held, &mut self.made, turn, event, reply);
                 Ok(Stepped::Event)
             }
             Look::NoBlock => {
-                self.made
-                    .add_there(turn, Event::NoBlock, Some(Reply::NoBlock));
+                let reply = Some(Reply::NoBlock);
+                add_there(&mut self.held, &mut self.made, turn, Event::NoBlock, reply);
                 Ok(Stepped::Event)
             }
             Look::Blocked(_) => Ok(Stepped::Blocked),

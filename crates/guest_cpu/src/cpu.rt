@@ -1,12 +1,18 @@
 //! A processor with its port.
-ghost use Rattle.std.specs.Prelude.{◌≡◌, ◌≢◌, ℕ, ◌≤◌, ◌<◌, ◌^◌, None, Some, All, length, OnOk, OnErr};
+ghost use Rattle.std.specs.Prelude.{◌≡◌, ◌≢◌, ℕ, List, ◌≤◌, ◌<◌, ◌^◌, None, Some, All, length, OnOk, OnErr};
+ghost use Rattle.std.specs.Option.{ForSome};
 ghost use Rattle.event_core.specs.declared.command.Command.TheVariants.{Accept, Alloc, Free, Load, Query};
 ghost use Rattle.event_core.specs.ReadableScript.{ReadableScript};
-ghost use Rattle.block_laws.specs.BlockScripts.{IsOfBlocks};
-ghost use Rattle.memory_core.specs.Value.{MemoryValue};
+ghost use Rattle.block_laws.specs.Unconverting.{ConvertsNothing};
+ghost use Rattle.dma_map.specs.Pools.{IsLayout};
+ghost use Rattle.event_core.specs.Moved.{entries_of};
+ghost use Rattle.io_areas.specs.Value.{AreaValue};
+ghost use Rattle.guest_steps.specs.Ground.{Ground, ground_of};
 ghost use Rattle.guest_steps.specs.Seen.{first_seen};
-ghost use Rattle.guest_steps.specs.Steps.{IsBlocked, IsWorked, MakesIn, RoomAlone};
+ghost use Rattle.guest_steps.specs.Steps.{IsWorked, MakesInMemory};
+ghost use Rattle.guest_cpu.specs.Layouts.{layout_in};
 ghost use Rattle.guest_cpu.specs.Resting.{StepsOn};
+ghost use Rattle.guest_cpu.specs.Wanting.{as_command};
 ghost use Rattle.guest_steps.specs.Standing.{Stands};
 
 use crate::progress::Progress;
@@ -15,6 +21,7 @@ use crate::wanted::Wanted;
 use event_core::{Boot, Entries, Hosts, Name, NoRoom, Script};
 use guest_base::CpuNo;
 use guest_steps::{Need, Processor, Stepped};
+use io_areas::Area;
 use memory_core::Memory;
 use page_module::Port;
 use std::alloc::{AllocError, Global};
@@ -34,7 +41,7 @@ impl<P: Port> Cpu<P> {
     ghost use Rattle.guest_cpu.specs.Standing.{CpuStands, seen_by};
 
     /// A processor of a boot, which has made no entry: with its number, its script and its port. It has a copy of the boot's
-    /// host records.
+    /// host records, and knows the layout of its pool.
     pub fn new(
         alloc: Global,
         boot: &Boot,
@@ -44,13 +51,13 @@ impl<P: Port> Cpu<P> {
         port: P,
     ) -> Cpu<P>
         requires hosts { hosts ≡ boot.now.hosts }
-        requires of_blocks { All IsOfBlocks script }
+        requires pool { ForSome (layout_in boot.now) IsLayout }
+        requires unconverting { All ConvertsNothing script }
         requires readable { ReadableScript script }
         ensures seen { seen_by P.made P.faults result
             ≡ first_seen boot.now number.0 script (P.made port) (P.faults port) }
-        ensures stands { (memory : MemoryValue)
-            → Stands (seen_by P.made P.faults result) memory
-            → CpuStands P.made P.faults P.room result memory }
+        ensures stands { (base : Ground) → Stands (seen_by P.made P.faults result) base
+            → CpuStands P.made P.faults P.room result base }
         ensures port { result.port ≡ port }
     {
         let port_before = Snapshot::of(&port);
@@ -65,7 +72,7 @@ impl<P: Port> Cpu<P> {
     pub fn finish(self) -> (P, Script, Entries)
         ensures port { result.0 ≡ self.port }
         ensures script { result.1 ≡ (seen_by P.made P.faults self).script }
-        ensures entries { result.2 ≡ (seen_by P.made P.faults self).entries }
+        ensures entries { result.2 ≡ entries_of (seen_by P.made P.faults self).moved }
     {
         let Cpu {
             progress,
@@ -78,15 +85,18 @@ impl<P: Port> Cpu<P> {
 }
 
 impl<P: Port> Cpu<P> {
+    ghost use Rattle.guest_cpu.specs.Leaving.{Leaves, StandsOver};
     ghost use Rattle.guest_cpu.specs.Standing.{CpuStands, seen_by};
 
     /// Reports the open run, which was worked on.
     fn report(&mut self, memory: &mut Memory)
         requires out { (seen_by P.made P.faults self.old).out ≢ None }
         requires worked { IsWorked (seen_by P.made P.faults self.old) }
-        requires stands { CpuStands P.made P.faults P.room self.old memory.old }
-        ensures stands { CpuStands P.made P.faults P.room self.new memory.new }
-        ensures makes { MakesIn (seen_by P.made P.faults self.old)
+        requires stands { StandsOver P.made P.faults P.room self.old memory.old }
+        ensures stands { (areas : List AreaValue)
+            → CpuStands P.made P.faults P.room self.old (ground_of memory.old areas)
+            → CpuStands P.made P.faults P.room self.new (ground_of memory.new areas) }
+        ensures makes { MakesInMemory (seen_by P.made P.faults self.old)
             (seen_by P.made P.faults self.new) memory.old memory.new }
         ensures port { self.new.port ≡ self.old.port }
     {
@@ -103,18 +113,9 @@ impl<P: Port> Cpu<P> {
     ) -> Result<Stepped, AllocError>
         requires steps { StepsOn (seen_by P.made P.faults self.old) memory.old
             (Accept start len) }
-        requires stands { CpuStands P.made P.faults P.room self.old memory.old }
-        ensures stands { CpuStands P.made P.faults P.room self.new memory.new }
-        ensures event { result ≡ Ok Stepped.Event
-            → MakesIn (seen_by P.made P.faults self.old)
-            (seen_by P.made P.faults self.new) memory.old memory.new }
-        ensures blocked { result ≡ Ok Stepped.Blocked
-            → (seen_by P.made P.faults self.new ≡ seen_by P.made P.faults self.old)
-            × RoomAlone memory.old memory.new
-            × IsBlocked (seen_by P.made P.faults self.old) memory.old.entries }
-        ensures refused { OnErr result
-            ((seen_by P.made P.faults self.new ≡ seen_by P.made P.faults self.old)
-            × RoomAlone memory.old memory.new) }
+        requires stands { StandsOver P.made P.faults P.room self.old memory.old }
+        ensures leaves { Leaves P.made P.faults P.room self.old self.new
+            memory.old memory.new result }
         ensures never_fails { P.never_fails self.old.port → P.never_fails self.new.port }
     {
         let units = memory.claim_units(start, len);
@@ -123,35 +124,6 @@ impl<P: Port> Cpu<P> {
         let rooms = take_room(alloc, port, progress, memory, units, unaccepted)?;
         Ok(progress.begin(memory, start, len, rooms))
     }
-
-    /// Tells whether a range of memory has an unaccepted unit.
-    fn query(
-        &mut self,
-        alloc: Global,
-        memory: &mut Memory,
-        start: u64,
-        len: u64,
-    ) -> Result<Stepped, AllocError>
-        requires steps { StepsOn (seen_by P.made P.faults self.old) memory.old
-            (Query start len) }
-        requires stands { CpuStands P.made P.faults P.room self.old memory.old }
-        ensures stands { CpuStands P.made P.faults P.room self.new memory.new }
-        ensures event { OnOk result (MakesIn (seen_by P.made P.faults self.old)
-            (seen_by P.made P.faults self.new) memory.old memory.new) }
-        ensures blocked { result ≢ Ok Stepped.Blocked }
-        ensures refused { OnErr result
-            ((seen_by P.made P.faults self.new ≡ seen_by P.made P.faults self.old)
-            × RoomAlone memory.old memory.new) }
-        ensures port { self.new.port ≡ self.old.port }
-    {
-        take_entry_room(alloc, &mut self.progress, memory)?;
-        self.progress.query(memory, start, len);
-        Ok(Stepped::Event)
-    }
-}
-
-impl<P: Port> Cpu<P> {
-    ghost use Rattle.guest_cpu.specs.Standing.{CpuStands, seen_by};
 
     /// Allocates a block of 2^`order` pages: takes a free one, or claims the lowest waiting one, with room taken for all its
     /// unaccepted runs.
@@ -164,18 +136,9 @@ impl<P: Port> Cpu<P> {
     ) -> Result<Stepped, AllocError>
         requires steps { StepsOn (seen_by P.made P.faults self.old) memory.old
             (Alloc name order) }
-        requires stands { CpuStands P.made P.faults P.room self.old memory.old }
-        ensures stands { CpuStands P.made P.faults P.room self.new memory.new }
-        ensures event { result ≡ Ok Stepped.Event
-            → MakesIn (seen_by P.made P.faults self.old)
-            (seen_by P.made P.faults self.new) memory.old memory.new }
-        ensures blocked { result ≡ Ok Stepped.Blocked
-            → (seen_by P.made P.faults self.new ≡ seen_by P.made P.faults self.old)
-            × RoomAlone memory.old memory.new
-            × IsBlocked (seen_by P.made P.faults self.old) memory.old.entries }
-        ensures refused { OnErr result
-            ((seen_by P.made P.faults self.new ≡ seen_by P.made P.faults self.old)
-            × RoomAlone memory.old memory.new) }
+        requires stands { StandsOver P.made P.faults P.room self.old memory.old }
+        ensures leaves { Leaves P.made P.faults P.room self.old self.new
+            memory.old memory.new result }
         ensures never_fails { P.never_fails self.old.port → P.never_fails self.new.port }
     {
         let units = memory.waiting_units();
@@ -183,6 +146,31 @@ impl<P: Port> Cpu<P> {
         let Cpu { progress, port, .. } = self;
         let rooms = take_room(alloc, port, progress, memory, units, unaccepted)?;
         progress.look(alloc, memory, name, order, rooms)
+    }
+}
+
+impl<P: Port> Cpu<P> {
+    ghost use Rattle.guest_cpu.specs.Leaving.{Leaves, StandsOver};
+    ghost use Rattle.guest_cpu.specs.Standing.{CpuStands, seen_by};
+
+    /// Tells whether a range of memory has an unaccepted unit.
+    fn query(
+        &mut self,
+        alloc: Global,
+        memory: &mut Memory,
+        start: u64,
+        len: u64,
+    ) -> Result<Stepped, AllocError>
+        requires steps { StepsOn (seen_by P.made P.faults self.old) memory.old
+            (Query start len) }
+        requires stands { StandsOver P.made P.faults P.room self.old memory.old }
+        ensures leaves { Leaves P.made P.faults P.room self.old self.new
+            memory.old memory.new result }
+        ensures port { self.new.port ≡ self.old.port }
+    {
+        take_entry_room(alloc, &mut self.progress, memory)?;
+        self.progress.query(memory, start, len);
+        Ok(Stepped::Event)
     }
 
     /// Frees the block of a name.
@@ -194,14 +182,9 @@ impl<P: Port> Cpu<P> {
     ) -> Result<Stepped, AllocError>
         requires steps { StepsOn (seen_by P.made P.faults self.old) memory.old
             (Free name) }
-        requires stands { CpuStands P.made P.faults P.room self.old memory.old }
-        ensures stands { CpuStands P.made P.faults P.room self.new memory.new }
-        ensures event { OnOk result (MakesIn (seen_by P.made P.faults self.old)
-            (seen_by P.made P.faults self.new) memory.old memory.new) }
-        ensures blocked { result ≢ Ok Stepped.Blocked }
-        ensures refused { OnErr result
-            ((seen_by P.made P.faults self.new ≡ seen_by P.made P.faults self.old)
-            × RoomAlone memory.old memory.new) }
+        requires stands { StandsOver P.made P.faults P.room self.old memory.old }
+        ensures leaves { Leaves P.made P.faults P.room self.old self.new
+            memory.old memory.new result }
         ensures port { self.new.port ≡ self.old.port }
     {
         take_entry_room(alloc, &mut self.progress, memory)?;
@@ -219,20 +202,38 @@ impl<P: Port> Cpu<P> {
     ) -> Result<Stepped, AllocError>
         requires steps { StepsOn (seen_by P.made P.faults self.old) memory.old
             (Load name off) }
-        requires stands { CpuStands P.made P.faults P.room self.old memory.old }
-        ensures stands { CpuStands P.made P.faults P.room self.new memory.new }
-        ensures event { OnOk result (MakesIn (seen_by P.made P.faults self.old)
-            (seen_by P.made P.faults self.new) memory.old memory.new) }
-        ensures blocked { result ≢ Ok Stepped.Blocked }
-        ensures refused { OnErr result
-            ((seen_by P.made P.faults self.new ≡ seen_by P.made P.faults self.old)
-            × RoomAlone memory.old memory.new) }
+        requires stands { StandsOver P.made P.faults P.room self.old memory.old }
+        ensures leaves { Leaves P.made P.faults P.room self.old self.new
+            memory.old memory.new result }
         ensures port { self.new.port ≡ self.old.port }
     {
         take_entry_room(alloc, &mut self.progress, memory)?;
         let bytes = self.progress.strayed(alloc, &name, off)?;
         self.progress.stray(memory, &name, off, bytes);
         Ok(Stepped::Event)
+    }
+
+    /// Steps the memory for the present command, with no claim open.
+    fn step_on(
+        &mut self,
+        alloc: Global,
+        memory: &mut Memory,
+        wanted: Wanted,
+    ) -> Result<Stepped, AllocError>
+        requires steps { StepsOn (seen_by P.made P.faults self.old) memory.old
+            (as_command wanted) }
+        requires stands { StandsOver P.made P.faults P.room self.old memory.old }
+        ensures leaves { Leaves P.made P.faults P.room self.old self.new
+            memory.old memory.new result }
+        ensures never_fails { P.never_fails self.old.port → P.never_fails self.new.port }
+    {
+        match wanted {
+            Wanted::Accept(start, len) => self.accept(alloc, memory, start, len),
+            Wanted::Query(start, len) => self.query(alloc, memory, start, len),
+            Wanted::Alloc(name, order) => self.alloc(alloc, memory, name, order),
+            Wanted::Free(name) => self.free(alloc, memory, name),
+            Wanted::Stray(name, off) => self.stray(alloc, memory, name, off),
+        }
     }
 }
 
@@ -263,15 +264,21 @@ impl<P: Port + Send> Processor for Cpu<P> {
         if stamp >= 1 << 64 {
             return Err(NoRoom::Worn(stamp));
         }
-        let stepped = match self.progress.wanted() {
-            Wanted::Accept(start, len) => self.accept(alloc, memory, start, len),
-            Wanted::Query(start, len) => self.query(alloc, memory, start, len),
-            Wanted::Alloc(name, order) => self.alloc(alloc, memory, name, order),
-            Wanted::Free(name) => self.free(alloc, memory, name),
-            Wanted::Stray(name, off) => self.stray(alloc, memory, name, off),
-        };
-        match stepped {
+        let wanted = self.progress.wanted();
+        match self.step_on(alloc, memory, wanted) {
             Ok(stepped) => Ok(stepped),
+            Err(AllocError) => Err(NoRoom::NoMemory),
+        }
+    }
+
+    fn step_area(&mut self, alloc: Global, area: &mut Area) -> Result<(), NoRoom> {
+        let stamp = self.progress.clock().max(area.last());
+        if stamp >= 1 << 64 {
+            return Err(NoRoom::Worn(stamp));
+        }
+        area.show_standing();
+        match self.progress.step_area(alloc, area) {
+            Ok(()) => Ok(()),
             Err(AllocError) => Err(NoRoom::NoMemory),
         }
     }
@@ -280,7 +287,7 @@ impl<P: Port + Send> Processor for Cpu<P> {
         self.progress.step_alone(alloc)
     }
 
-    ghost told = { λ c memory s. s.stands };
+    ghost told = { λ c base s. s.stands };
 
     ghost left_standing = { λ c left found s again.
         found-course c.progress (P.made c.port_before.value) (P.made c.port)

@@ -1,11 +1,15 @@
-//! A processor of the guest: its script, its port to the secure module, and its steps.
+//! A processor of the guest: its script, its port to the secure module, and its steps over the memory and the areas of the pool.
 
 #![tactic(auto)]
 
+mod access;
 mod alone;
 mod answers;
+mod area_step;
+mod areas;
 mod blocks;
 mod cpu;
+mod layout;
 mod made;
 mod progress;
 mod room;
@@ -15,6 +19,3 @@ mod wanted;
 mod work;
 
 pub use cpu::Cpu;
-
-#[cfg(test)]
-mod tests;

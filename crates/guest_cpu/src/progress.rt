@@ -1,12 +1,13 @@
 //! How far a processor has come in its script.
 ghost use Rattle.std.specs.Prelude.{◌≡◌, [], None, All, true, false};
 
+use crate::layout::layout_of;
 use crate::made::MadeEntries;
-use accept_sizes::{CallLog, RunEnd};
+use accept_sizes::RunEnd;
 use event_core::{Boot, Entries, Hosts, Script};
 use guest_base::{CpuNo, Units};
-use held_blocks::HeldBlocks;
-use page_module::Span;
+use held_blocks::Holdings;
+use page_module::{CallLog, Span};
 use std::alloc::Global;
 use std::collections::VecDeque;
 use std::marker::Model;
@@ -39,8 +40,8 @@ pub(crate) struct Progress {
     pub(crate) hosts: Hosts,
     pub(crate) script: Script,
     pub(crate) made: MadeEntries,
-    /// The blocks that it holds, by the replies so far.
-    pub(crate) held: HeldBlocks,
+    /// The blocks and the mappings that it holds, by its entries so far.
+    pub(crate) held: Holdings,
     /// The run that is out, with a claim open.
     pub(crate) open_run: Option<OpenRun>,
     /// The runs behind it.
@@ -57,7 +58,7 @@ impl Model for Progress {
       boot = p.boot.value;
       number = p.number.0;
       script = p.script;
-      entries = p.made.entries;
+      moved = p.made.moved;
       out = out_of p.open_run;
       done = done_of p.open_run;
       runs = runs_of p.open_run p.later.items;
@@ -69,8 +70,12 @@ impl Model for Progress {
 }
 
 impl Progress {
-    ghost use Rattle.block_laws.specs.BlockScripts.{IsOfBlocks};
+    ghost use Rattle.block_laws.specs.Unconverting.{ConvertsNothing};
+    ghost use Rattle.event_core.specs.Moved.{entries_of};
     ghost use Rattle.event_core.specs.ReadableScript.{ReadableScript};
+    ghost use Rattle.dma_map.specs.Pools.{IsLayout};
+    ghost use Rattle.std.specs.Option.{ForSome};
+    ghost use Rattle.guest_cpu.specs.Layouts.{layout_in};
     ghost use Rattle.guest_cpu.specs.Progressing.{first_progress};
 
     /// The progress of a processor that has made no entry.
@@ -82,7 +87,8 @@ impl Progress {
         script: Script,
     ) -> Progress
         requires hosts { hosts ≡ boot.now.hosts }
-        requires of_blocks { All IsOfBlocks script }
+        requires pool { ForSome (layout_in boot.now) IsLayout }
+        requires unconverting { All ConvertsNothing script }
         requires readable { ReadableScript script }
         ensures { result ≡ first_progress boot.now number.0 script result.room }
     {
@@ -92,7 +98,7 @@ impl Progress {
             hosts,
             script,
             made: MadeEntries::new(alloc),
-            held: HeldBlocks::new(alloc),
+            held: Holdings::new(alloc, layout_of(boot)),
             open_run: None,
             later: VecDeque::new(alloc),
         }
@@ -101,7 +107,7 @@ impl Progress {
     /// The script and the entries.
     pub(crate) fn into_parts(self) -> (Script, Entries)
         ensures script { result.0 ≡ self.script }
-        ensures entries { result.1 ≡ self.entries }
+        ensures entries { result.1 ≡ entries_of self.moved }
     {
         let Progress {
             boot: _,

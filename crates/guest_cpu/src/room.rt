@@ -11,12 +11,12 @@ ghost use Rattle.guest_cpu.specs.Rooms.{RoomFor, RoomTaken};
 ghost use Rattle.guest_cpu.specs.Stepping.{OnlyRoom};
 
 use crate::progress::{Progress, RunRoom};
-use accept_sizes::{CallLog, most_calls};
+use accept_sizes::most_calls;
 use event_core::NoRoom;
 use guest_base::limits::PAGE_END;
 use guest_base::{Unit, Units};
 use memory_core::Memory;
-use page_module::Port;
+use page_module::{CallLog, Port};
 use std::alloc::{AllocError, Global};
 use std::collections::VecDeque;
 

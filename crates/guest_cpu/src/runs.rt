@@ -5,10 +5,10 @@ ghost use Rattle.page_module.specs.Spans.{LieInMemory};
 ghost use Rattle.guest_cpu.specs.Kept.{OpensFirst, RoomOf, TellsWorked, done_of};
 
 use crate::progress::{OpenRun, RunRoom};
-use accept_sizes::{CallLog, RunEnd};
+use accept_sizes::RunEnd;
 use event_core::Calls;
 use guest_base::Units;
-use page_module::Span;
+use page_module::{CallLog, Span};
 use std::alloc::Global;
 use std::collections::VecDeque;
 

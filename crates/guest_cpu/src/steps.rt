@@ -4,32 +4,66 @@ ghost use Rattle.std.specs.Option.{option_map};
 ghost use Rattle.event_core.specs.declared.command.Command.TheVariants.{Accept, Query};
 ghost use Rattle.event_core.specs.declared.event.Event.TheVariants.{Asked};
 ghost use Rattle.event_core.specs.declared.reply.Reply.TheVariants as reply;
+ghost use Rattle.event_core.specs.declared.entry.Place.TheVariants.{Memory as InMemory};
 ghost use Rattle.event_core.specs.declared.module_call.ModuleCall.{ModuleCall};
 ghost use Rattle.event_core.specs.Claims.{Claimed, claim_of};
 ghost use Rattle.event_core.specs.Legal.{greatest_stamp};
 ghost use Rattle.event_core.specs.MemoryRows.{some_unaccepted};
-ghost use Rattle.event_core.specs.Own.{replied};
+ghost use Rattle.event_core.specs.Own.{ended, replied};
 ghost use Rattle.event_core.specs.Refusals.{memory_range_refusal};
 ghost use Rattle.event_core.specs.Units.{guarded_units};
 ghost use Rattle.accept_sizes.specs.declared.accept.RunEnd.{RunEnd};
+ghost use Rattle.held_blocks.specs.Holdings.{own_in as own_held, Leaves};
 ghost use Rattle.memory_core.specs.Steps.{unaccepted_count};
+ghost use Rattle.memory_core.specs.UnderLock.{unmoved};
 ghost use Rattle.guest_steps.specs.declared.processor.Need.TheVariants as need;
-ghost use Rattle.guest_cpu.specs.Progressing.{moved_in, command_of, need_in};
+ghost use Rattle.guest_cpu.specs.Progressing.{command_of, need_in};
 ghost use Rattle.guest_cpu.specs.Wanting.{as_command, is_alloc};
 ghost use Rattle.guest_cpu.specs.Kept.{HasRoom, runs_in};
+ghost use Rattle.guest_cpu.specs.Made.{entry_at};
 ghost use Rattle.guest_cpu.specs.Stepping.{Adds, AreRunsAmong, Begins, MayStep, OnlyRoom, Reportable, Reports, claim_made, going_on, runs_with};
 
 use crate::answers::{after_report, reply_of_claim};
+use crate::made::MadeEntries;
 use crate::progress::{Progress, RunRoom};
 use crate::runs::{Worked, go_on, worked_run};
 use crate::wanted::{Wanted, need_of};
 use event_core::{Command, Event, Reply, Turn};
 use guest_base::{Block, Units};
 use guest_steps::{Need, Stepped};
+use held_blocks::Holdings;
 use memory_core::{Begin, Memory, stopped_page};
 use page_module::Span;
 use std::alloc::{AllocError, Global};
 use std::collections::VecDeque;
+
+/// Behind a reply the looks of the command count no more.
+pub(crate) fn end_looks(held: &mut Holdings, reply: &Option<Reply>)
+    ensures { Leaves held.old held.new (ended reply.now (own_held held.old)) }
+{
+    if reply.is_some() {
+        held.ended();
+    }
+}
+
+/// Adds an entry under the memory's lock, by the turn behind it, in the room that was taken. With a reply the looks of the command
+/// count no more.
+pub(crate) fn add_there(
+    held: &mut Holdings,
+    made: &mut MadeEntries,
+    turn: Turn,
+    event: Event,
+    reply: Option<Reply>,
+)
+    requires { 0 < made.old.room }
+    ensures held { Leaves held.old held.new (ended reply (own_held held.old)) }
+    ensures moved { made.new.moved
+        ≡ made.old.moved ++ unmoved (entry_at turn InMemory event reply) ∷ [] }
+    ensures room { made.old.room ≡ made.new.room + 1 }
+{
+    end_looks(held, &reply);
+    made.add_there(turn, event, reply);
+}
 
 impl Progress {
     /// What the present command asks, which needs the memory.
@@ -38,7 +72,11 @@ impl Progress {
         requires need { need_in self.now ≡ need.Memory }
         ensures { command_of self.now ≡ Some (as_command result) }
     {
-        Wanted::of(&self.held, self.script.get(self.made.replies()))
+        Wanted::of(
+            &self.held,
+            self.number,
+            self.script.get(self.made.replies()),
+        )
     }
 
     /// What the next step needs.
@@ -50,7 +88,7 @@ impl Progress {
         }
         let number = self.made.replies();
         if number < self.script.len() {
-            need_of(&self.held, self.script.get(number))
+            need_of(&self.held, self.number, self.script.get(number))
         } else {
             Need::Finished
         }
@@ -65,7 +103,7 @@ impl Progress {
 
     /// The greatest stamp of the entries.
     pub(crate) fn clock(&self) -> u128
-        ensures { result ≡ greatest_stamp (moved_in self.now) }
+        ensures { result ≡ greatest_stamp self.now.moved }
     {
         self.made.clock()
     }
@@ -89,14 +127,15 @@ impl Progress {
             (guarded_units self.old.boot start len) in
             Adds self.old self.new memory.old memory.new (Asked found) (Some (reply.Query found)) }
         ensures same { self.new ≡ record self.old {
-          entries = self.new.entries;
+          moved = self.new.moved;
           room = self.new.room;
         } }
     {
         let mut turn = self.made.turn(self.number);
         let found = memory.query(&mut turn, start, len);
-        self.made
-            .add_there(turn, Event::Asked { found }, Some(Reply::Query(found)));
+        let event = Event::Asked { found };
+        let reply = Some(Reply::Query(found));
+        add_there(&mut self.held, &mut self.made, turn, event, reply);
     }
 
     /// Claims the guarded units of a range, for whose unaccepted runs there is room: the present command.
@@ -149,7 +188,8 @@ impl Progress {
         let run = go_on(&mut self.open_run, &mut rooms, span);
         self.later = rooms;
         let event = Event::Claim { block, units, run };
-        self.made.add_there(turn, event, reply_of_claim(block, run));
+        let reply = reply_of_claim(block, run);
+        add_there(&mut self.held, &mut self.made, turn, event, reply);
         Stepped::Event
     }
 
@@ -187,6 +227,6 @@ impl Progress {
             stopped: stopped_page(end),
             next,
         };
-        self.made.add_there(turn, event, reply);
+        add_there(&mut self.held, &mut self.made, turn, event, reply);
     }
 }

@@ -18,7 +18,7 @@ use Rattle.guest_input.specs.declared.stop.Cause.TheVariants.{TooLong, BadBit}
 use Rattle.guest_input.specs.declared.stop.InputFile.{InputFile}
 use Rattle.guest_input.specs.declared.stop.InputFile.TheVariants.{Order, Map, Table, Script}
 use Rattle.guest_input.specs.declared.stop.Stop.{Stop}
-use Rattle.guest_input.specs.declared.stop.Stop.TheVariants.{Refused, NotRead, Module, NoMemory}
+use Rattle.guest_input.specs.declared.stop.Stop.TheVariants.{Refused, NotRead, PoolNoRoom, Module, NoMemory}
 use Rattle.guest_input.specs.Causes.{limit_of, content_cause, cause_of, cause_by, fit_cause, table_cause, HasCause, IsGood, IsMapOf, OfEachBefore}
 use Rattle.guest_input.specs.Asked.{all_names, names_to, names_to_table, Asks, AsksFront}
 use Rattle.guest_input.specs.Files.{AreGood, AreScriptsOf, IsTableOf}
@@ -80,6 +80,7 @@ pub stops_of : (files : Reading) (named : Named) (file : InputFile) (bytes seen 
 stops_of files named file bytes seen (Refused at cause) same whole within found =
     (found.0, known_cause files.holds named file bytes (Some cause) whole within (sym (ap (content_cause (cpus_in named) file) same) ∙ found.1))
 stops_of files named file bytes seen (NotRead at) same whole within found = absurd found
+stops_of files named file bytes seen PoolNoRoom same whole within found = absurd found
 stops_of files named file bytes seen Module same whole within found = absurd found
 stops_of files named file bytes seen NoMemory same whole within found = tt
 
@@ -96,6 +97,7 @@ pub table_stops : (map : List Descriptor) (files : Reading) (named : Named) (byt
 table_stops map files named bytes seen (Refused at cause) same whole within found =
     (found.0, known_table map files.holds named bytes (Some cause) whole within (sym (ap (content_by map) same) ∙ found.1))
 table_stops map files named bytes seen (NotRead at) same whole within found = absurd found
+table_stops map files named bytes seen PoolNoRoom same whole within found = absurd found
 table_stops map files named bytes seen Module same whole within found = absurd found
 table_stops map files named bytes seen NoMemory same whole within found = tt
 
@@ -103,6 +105,7 @@ table_stops map files named bytes seen NoMemory same whole within found = tt
 pub table_stops_of : (map : List Descriptor) (files : Reading) (named : Named) (stop : Stop) → StopsAt files named Table stop → StopsAtTable map files named stop
 table_stops_of map files named (Refused at cause) stops = (stops.0, λ bytes told. ap (λ c. option_or c (fit_cause map (table_of bytes))) (stops.1 bytes told))
 table_stops_of map files named (NotRead at) stops = stops
+table_stops_of map files named PoolNoRoom stops = stops
 table_stops_of map files named Module stops = stops
 table_stops_of map files named NoMemory stops = stops
 
@@ -132,6 +135,7 @@ no_table holds named map none is_map =
 pub asks_of : (name : List ℕ) (files : Reading) (stop : Stop) → Asks (name ∷ []) files → AsksOne name files stop
 asks_of name files (Refused at cause) is = is
 asks_of name files (NotRead at) is = is
+asks_of name files PoolNoRoom is = is
 asks_of name files Module is = is
 asks_of name files NoMemory is = inl is
 
@@ -251,6 +255,7 @@ stopped_at files now named file causes names (NotRead at) same kept last till we
       asked = sym till ∙ asked_to named file files.asked_before now.asked_before names now.asked_after here were asks;
       before = good;
     })
+stopped_at files now named file causes names PoolNoRoom same kept last till were here judges good stops asks = absurd stops
 stopped_at files now named file causes names Module same kept last till were here judges good stops asks = absurd stops
 stopped_at files now named file causes names NoMemory same kept last till were here judges good stops (inl is) =
     let front = front_to named file in

@@ -13,7 +13,7 @@ use Rattle.guest_input.specs.Causes.{cause_by, HasCause, IsKnownCause, IsGood, I
 
 -- The first file that is refused, by known contents.
 
-one_map : (bytes : List ℕ) (a b : GuestMap) → map_of bytes ≡ Ok a → map_of bytes ≡ Ok b → a ≡ b
+pub one_map : (bytes : List ℕ) (a b : GuestMap) → map_of bytes ≡ Ok a → map_of bytes ≡ Ok b → a ≡ b
 one_map bytes a b is that = let e : Ok a ≡ Ok b = sym is ∙ that in cc
 
 -- the cause of a file is the one that its known contents have

@@ -10,7 +10,7 @@ use Rattle.event_core.specs.declared.command.Command.{Command}
 use Rattle.guest_words.specs.Words.{Named, cpus_in}
 use Rattle.guest_input.specs.declared.stop.InputFile.TheVariants.{Script}
 use Rattle.guest_input.specs.declared.stop.Stop.{Stop}
-use Rattle.guest_input.specs.declared.stop.Stop.TheVariants.{Refused, NotRead, Module, NoMemory}
+use Rattle.guest_input.specs.declared.stop.Stop.TheVariants.{Refused, NotRead, PoolNoRoom, Module, NoMemory}
 use Rattle.guest_input.specs.Asked.{Asks}
 use Rattle.guest_input.specs.Causes.{cause_of, IsGood}
 use Rattle.guest_input.specs.Files.{AreScriptsOf, IsEachOf, IsScriptOf}
@@ -108,6 +108,7 @@ stopped_behind files now named cpu scripts stop read within begins counts stops 
     own_of : (stop : Stop) → StopsAt now named (Script cpu) stop → StopsAt (record { holds = files.holds; asked_before = files.asked_before; asked_after = now.asked_after; faults_before = files.faults_before; faults_after = now.faults_after }) named (Script cpu) stop
     own_of (Refused at cause) s = (s.0, subst (λ (h : List ℕ → Option (List ℕ)). (bytes : List ℕ) → h (name_of named (Script cpu)) ≡ Some bytes → cause_of (cpus_in named) (Script cpu) bytes ≡ Some cause) read.same s.1)
     own_of (NotRead at) s = (s.0, Rose-after files.faults_before now.faults_before now.faults_after (omega (arith, read.kept, counts)) s.1)
+    own_of PoolNoRoom s = absurd s
     own_of Module s = absurd s
     own_of NoMemory s = tt
 
@@ -117,6 +118,7 @@ stopped_behind files now named cpu scripts stop read within begins counts stops 
     asks_of_all : (stop : Stop) → AsksOne (name_of named (Script cpu)) now stop → AsksOneMore (take cpu.0 named.scripts) (name_of named (Script cpu)) (record { holds = files.holds; asked_before = files.asked_before; asked_after = now.asked_after; faults_before = files.faults_before; faults_after = now.faults_after }) stop
     asks_of_all (Refused at cause) a = more a
     asks_of_all (NotRead at) a = more a
+    asks_of_all PoolNoRoom a = more a
     asks_of_all Module a = more a
     asks_of_all NoMemory (inl a) = inl (more a)
     asks_of_all NoMemory (inr a) = inr (a ∙ append-nil now.asked_before ∙ begins ∙ read.asked)

@@ -87,6 +87,13 @@ held holds named (Script cpu) = option_and_then holds (slice_get named.scripts c
 abbrev pub IsMapOf : (List ℕ → Option (List ℕ)) → Named → GuestMap → Type 0
 IsMapOf holds named map = (bytes : List ℕ) → holds named.map ≡ Some bytes → map_of bytes ≡ Ok map
 
+-- the map file's contents are known, and this is its map
+pub record IsKnownMapOf (holds : List ℕ → Option (List ℕ)) (named : Named)
+    (map : GuestMap) : Type 0 where
+  pub bytes : List ℕ
+  pub held : holds named.map ≡ Some bytes
+  pub map_is : map_of bytes ≡ Ok map
+
 -- Wherever the file's contents are known, this is its cause (None where it is good). A table's is
 -- by a map, which is the map file's wherever the contents of that are known.
 abbrev pub HasCause : (List ℕ → Option (List ℕ)) → Named → InputFile → Option Cause → Type 0

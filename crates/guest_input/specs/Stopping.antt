@@ -9,7 +9,7 @@ use Rattle.guest_input.specs.declared.stop.Cause.{Cause}
 use Rattle.guest_input.specs.declared.stop.InputFile.{InputFile}
 use Rattle.guest_input.specs.declared.stop.InputFile.TheVariants.{Table, Script}
 use Rattle.guest_input.specs.declared.stop.Stop.{Stop}
-use Rattle.guest_input.specs.declared.stop.Stop.TheVariants.{Refused, NotRead, Module, NoMemory}
+use Rattle.guest_input.specs.declared.stop.Stop.TheVariants.{Refused, NotRead, PoolNoRoom, Module, NoMemory}
 use Rattle.guest_input.specs.Asked.{all_names, names_to, Asks, AsksFront}
 use Rattle.guest_input.specs.Causes.{cause_of, cause_by, fit_cause, table_cause, IsGood, IsRefused, OfEachBefore}
 use Rattle.guest_input.specs.Reading.{Reading}
@@ -21,6 +21,7 @@ use Rattle.guest_input.specs.Stops.{name_of, IsNamed}
 abbrev pub FindsBy : InputFile → Option Cause → Stop → Type 0
 FindsBy file found (Refused at cause) = (at ≡ file) × (found ≡ Some cause)
 FindsBy file found (NotRead at) = ⊥
+FindsBy file found PoolNoRoom = ⊥
 FindsBy file found Module = ⊥
 FindsBy file found NoMemory = Unit {0}
 
@@ -36,6 +37,7 @@ StopsBy causes files named file (Refused at cause) =
     × ((bytes : List ℕ) → files.holds (name_of named file) ≡ Some bytes → causes bytes ≡ Some cause)
 StopsBy causes files named file (NotRead at) =
     (at ≡ file) × Rose files.faults_before files.faults_after
+StopsBy causes files named file PoolNoRoom = ⊥
 StopsBy causes files named file Module = ⊥
 StopsBy causes files named file NoMemory = Unit {0}
 
@@ -87,5 +89,6 @@ pub record IsNotRead (files : Reading) (named : Named) (file : InputFile) : Type
 abbrev pub StopsReading : Reading → Named → Stop → Type 0
 StopsReading files named (Refused file cause) = RefusesFile files named file cause
 StopsReading files named (NotRead file) = IsNotRead files named file
+StopsReading files named PoolNoRoom = ⊥
 StopsReading files named Module = ⊥
 StopsReading files named NoMemory = AsksFront (all_names named) files

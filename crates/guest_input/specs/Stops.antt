@@ -17,7 +17,7 @@ use Rattle.guest_input.specs.declared.stop.Cause.TheVariants.{TooLong, Later, Of
 use Rattle.guest_input.specs.declared.stop.InputFile.{InputFile}
 use Rattle.guest_input.specs.declared.stop.InputFile.TheVariants.{Order, Map, Table, Script}
 use Rattle.guest_input.specs.declared.stop.Stop.{Stop}
-use Rattle.guest_input.specs.declared.stop.Stop.TheVariants.{Refused, NotRead, Module, NoMemory}
+use Rattle.guest_input.specs.declared.stop.Stop.TheVariants.{Refused, NotRead, PoolNoRoom, Module, NoMemory}
 
 -- The lines and statuses of a run that ends before its text (own rule).
 
@@ -105,6 +105,10 @@ not_read_line name = line (codes "failed: read " ++ name)
 abbrev pub words_line : List ℕ
 words_line = line (codes "refused: words")
 
+-- the line of a pool that no range of memory holds
+abbrev pub pool_line : List ℕ
+pool_line = line (codes "refused: pool")
+
 -- the line of a boot that stopped
 abbrev pub boot_line : List ℕ
 boot_line = line (codes "failed: boot")
@@ -113,6 +117,7 @@ boot_line = line (codes "failed: boot")
 abbrev pub stop_line : Named → Stop → List ℕ
 stop_line named (Refused file cause) = refused_line (name_of named file) cause
 stop_line named (NotRead file) = not_read_line (name_of named file)
+stop_line named PoolNoRoom = pool_line
 stop_line named Module = boot_line
 stop_line named NoMemory = []
 
@@ -120,5 +125,6 @@ stop_line named NoMemory = []
 abbrev pub status_of : Stop → ℕ
 status_of (Refused file cause) = 3
 status_of (NotRead file) = 4
+status_of PoolNoRoom = 3
 status_of Module = 7
 status_of NoMemory = 6

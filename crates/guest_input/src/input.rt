@@ -6,8 +6,8 @@ ghost use Rattle.event_core.specs.Given.{FitsGiven};
 ghost use Rattle.event_core.specs.Map.{MapRules};
 ghost use Rattle.event_core.specs.Table.{FitsTable, bad_unit};
 ghost use Rattle.efi_map.specs.MapFile.{map_of};
-ghost use Rattle.block_laws.specs.BlockScripts.{IsOfBlocks};
 ghost use Rattle.block_laws.specs.Runnable.{IsRunnable};
+ghost use Rattle.block_laws.specs.Unconverting.{ConvertsNothing};
 ghost use Rattle.guest_base.specs.declared.memory.CpuNo.{CpuNo as Cpu};
 ghost use Rattle.guest_script.specs.Order.{order_in, ReadableOrder};
 ghost use Rattle.guest_script.specs.Script.{script_of};
@@ -129,20 +129,13 @@ fn table_in(alloc: Global, bytes: &[u8], map: &GuestMap) -> Result<Bitmap, Stop>
     }
 }
 
-/// Whether a command can be run today.
+/// Whether a command can be run today: all but those that convert a block.
 fn is_runnable(command: &Command) -> bool
     ensures { result ≡ is_runnable command.now }
 {
-    matches!(
+    !matches!(
         command,
-        Command::Alloc { .. }
-            | Command::Free { .. }
-            | Command::Accept { .. }
-            | Command::Query { .. }
-            | Command::Read { .. }
-            | Command::Write { .. }
-            | Command::Fill { .. }
-            | Command::Load { .. }
+        Command::Share { .. } | Command::Private { .. } | Command::Giveback { .. }
     )
 }
 
@@ -154,11 +147,11 @@ fn are_runnable(commands: &[Command]) -> bool
 }
 
 /// The script of a processor, where it can be run today.
-#[tactic(auto, using(crate::proofs::RunnableLemmas::all_of_blocks))]
+#[tactic(auto, using(crate::proofs::RunnableLemmas::all_convert_nothing))]
 fn runnable(script: Script, cpu: CpuNo) -> Result<Script, Stop>
     ensures same { IfOk result (λ runnable. runnable ≡ script) }
     ensures runnable { OnOk result (list_all is_runnable script ≡ true) }
-    ensures of_blocks { OnOk result (All IsOfBlocks script) }
+    ensures unconverting { OnOk result (All ConvertsNothing script) }
     ensures later { IfErr result (λ stop. (stop ≡ Stop.Refused (InputFile.Script cpu) Cause.Later)
         × (list_all is_runnable script ≡ false)) }
 {

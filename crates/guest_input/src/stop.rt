@@ -52,6 +52,8 @@ pub enum Stop {
     Refused(InputFile, Cause),
     /// The file couldn't be read.
     NotRead(InputFile),
+    /// No range of memory holds the pool; all files are read and good.
+    PoolNoRoom,
     /// Boot stopped at a page, where the secure module failed.
     Module,
     /// Memory ran out.
@@ -98,7 +100,7 @@ impl Stop {
         ensures { result ≡ status_of self }
     {
         match self {
-            Stop::Refused(_, _) => 3,
+            Stop::Refused(_, _) | Stop::PoolNoRoom => 3,
             Stop::NotRead(_) => 4,
             Stop::Module => 7,
             Stop::NoMemory => 6,
@@ -211,6 +213,7 @@ pub fn print_stop(alloc: Global, names: &Names<'_>, stop: Stop) -> Result<String
     match stop {
         Stop::Refused(file, cause) => print_refused(alloc, name_in(names, file), cause),
         Stop::NotRead(file) => print_not_read(alloc, name_in(names, file)),
+        Stop::PoolNoRoom => String::from_str(alloc, "refused: pool\n"),
         Stop::Module => String::from_str(alloc, "failed: boot\n"),
         Stop::NoMemory => Err(AllocError),
     }

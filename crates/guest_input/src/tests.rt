@@ -84,18 +84,23 @@ fn no_order_of_a_run_on_threads(rt: HostRuntime) -> Result<(), Fail> {
 }
 
 #[test]
-fn commands_of_blocks_run_and_others_come_later(rt: HostRuntime) -> Result<(), Fail> {
+fn commands_that_convert_come_later(rt: HostRuntime) -> Result<(), Fail> {
     let alloc = rt.alloc();
     let of_blocks = "alloc a 3\nwrite a 0 01\nfill a 1 2 9\nread a 0 3\nload a 32761\nfree a\n";
     assert_eq!(rt; stop_line(alloc, "", of_blocks)?.as_str(), "none");
+    let of_mappings =
+        "map m a 0 1 both 0\nsyncdev m 0 1\nsynccpu m 0 1\ndread m 0 1\ndwrite m 0 01\nunmap m skip\n";
+    assert_eq!(rt; stop_line(alloc, "", of_mappings)?.as_str(), "none");
     assert_eq!(rt;
-        stop_line(alloc, "", "alloc a 10\nshare a\n")?.as_str(),
-        "refused: s1: later\n"
+        stop_line(alloc, "", "hostread 0 1\nhostwrite 0 01\n")?.as_str(),
+        "none"
     );
-    assert_eq!(rt;
-        stop_line(alloc, "", "map m a 0 1 both 0\n")?.as_str(),
-        "refused: s1: later\n"
-    );
+    for script in ["alloc a 10\nshare a\n", "private a\n", "free a\ngiveback a"] {
+        assert_eq!(rt;
+            stop_line(alloc, "", script)?.as_str(),
+            "refused: s1: later\n"
+        );
+    }
     Ok(())
 }
 
@@ -114,10 +119,6 @@ fn the_first_file_that_is_refused(rt: HostRuntime) -> Result<(), Fail> {
     assert_eq!(rt;
         stop_line(alloc, "", "# a\njump a")?.as_str(),
         "refused: s1: line 2 word\n"
-    );
-    assert_eq!(rt;
-        stop_line(alloc, "", "free a\ngiveback a")?.as_str(),
-        "refused: s1: later\n"
     );
     Ok(())
 }

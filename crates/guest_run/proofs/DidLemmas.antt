@@ -15,6 +15,7 @@ use Rattle.guest_run.specs.Ends.Ending.{Unmatched, Stops, Runs}
 use Rattle.guest_run.specs.Ran.{Ran, RunOf}
 use Rattle.guest_run.specs.Stopping.{EndsWith, StopEnds}
 use Rattle.guest_run.proofs.EndLemmas.{ends_of}
+use Rattle.guest_run.proofs.RoomLemmas.{room_of_run}
 
 -- What the program did.
 
@@ -26,7 +27,7 @@ IsAsked o arguments r = (named : Named) × (arguments ≡ Some named) × RunOf o
 pub did_run : {P : Type 0} (o : Outside P) (arguments : Option Named) (named : Named) (result : Result (Recorded × List PageRun) Stop) (ended : Ended) → arguments ≡ Some named → Ran o.files o.ports named result → IfOk result (λ r. RunEnds o.out r.0 ended) → IfErr result (λ stop. (ended.run ≡ None) × StopEnds o.out named stop ended) → Did o arguments ended
 did_run o arguments named (Ok r) ended is ran ends stops = record {
   run = subst (λ run. IfSome run (IsAsked o arguments)) (sym ends.0) (named, is, ran.run);
-  ends = ends_of o arguments ended (subst (λ a. PortsKept (cpus_of a) o.ports) (sym is) ran.kept) (Runs named r.0 is ran.good ran.asked ends);
+  ends = ends_of o arguments ended (subst (λ a. PortsKept (cpus_of a) o.ports) (sym is) ran.kept) (Runs named r.0 is ran.good (room_of_run o.files.holds o.ports named r.0 ran.run) ran.asked ends);
 }
 did_run o arguments named (Err stop) ended is ran ends stops = record {
   run = subst (λ run. IfSome run (IsAsked o arguments)) (sym stops.0) tt;

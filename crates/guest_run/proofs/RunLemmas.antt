@@ -1,4 +1,4 @@
-use Rattle.std.proofs.Common.{◌≡◌, ℕ, true, List, length, Option, None, Some, refl, sym, subst, inr, arith}
+use Rattle.std.proofs.Common.{◌≡◌, ℕ, List, length, Option, None, Some, refl, sym, subst, inr, arith}
 use Rattle.std.specs.Prelude.{Ok, Err}
 use Rattle.std.specs.Option.{option_map}
 use Rattle.guest_base.specs.declared.memory.PageRun.{PageRun}
@@ -7,7 +7,7 @@ use Rattle.event_core.specs.declared.boot.Boot.{Boot}
 use Rattle.event_core.specs.declared.boot.Recorded.{Recorded}
 use Rattle.event_core.specs.declared.command.Command.{Command}
 use Rattle.event_core.specs.declared.module_call.ModuleCall.{ModuleCall}
-use Rattle.guest_words.specs.Words.{Named, cpus_in, is_cpus}
+use Rattle.guest_words.specs.Words.{Named, cpus_in, KeepsLimits}
 use Rattle.guest_input.specs.Asked.{all_names, Asks}
 use Rattle.guest_input.specs.Files.{AreGood, IsOrderIn}
 use Rattle.guest_input.specs.Reading.{Reading}
@@ -77,14 +77,14 @@ ran_out files made faults never old between after named s asked start kept halts
 }
 
 -- it didn't begin
-pub ran_not : {P : Type 0} (files : Reading) (made : P → List ModuleCall) (faults : P → ℕ) (never : P → Type 0) (old after : List P) (named : Named) (stop : Stop) → is_cpus (cpus_in named) ≡ true → Stopped files (asking made faults never old after) named stop → PortsKept 1 (asking made faults never old after) → Ran files (asking made faults never old after) named (Err stop)
-ran_not files made faults never old after named stop cpus stopped kept = record {
+pub ran_not : {P : Type 0} (files : Reading) (made : P → List ModuleCall) (faults : P → ℕ) (never : P → Type 0) (old after : List P) (named : Named) (stop : Stop) → KeepsLimits named → Stopped files (asking made faults never old after) named stop → PortsKept 1 (asking made faults never old after) → Ran files (asking made faults never old after) named (Err stop)
+ran_not files made faults never old after named stop keeps stopped kept = record {
   good = tt;
   run = tt;
   final_runs = tt;
   asked = tt;
   stop = stopped;
-  kept = kept_more made faults never 1 (cpus_in named) old after (omega (arith, cpus_some (cpus_in named) cpus)) kept;
+  kept = kept_more made faults never 1 (cpus_in named) old after (omega (arith, cpus_some named keeps)) kept;
 }
 
 -- without an order file there is no order

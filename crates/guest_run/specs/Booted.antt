@@ -11,7 +11,7 @@ use Rattle.guest_input.specs.Files.{AreScriptsOf, IsGiven, IsOrderOf}
 -- What a run is of (own rule).
 
 -- The run of a boot and scripts is that of the files that are named, wherever their contents are
--- known: boot is that of the map and of the table, with no pool, the areas of the arguments and a
+-- known: boot is that of the map and of the table, with the slots and areas of the arguments and a
 -- processor for each script; the scripts are those of the script files; and the order is that of
 -- the order file, where one is named.
 pub record BootedBy (holds : List ℕ → Option (List ℕ)) (named : Named) (order : Option (List CpuNo))
@@ -20,5 +20,6 @@ pub record BootedBy (holds : List ℕ → Option (List ℕ)) (named : Named) (or
   pub map : GuestMap
   pub table : Option Bits
   pub given : IsGiven holds named map table
-  pub right : BootRight map.descriptors map.hosts table 0 named.areas (cpus_in named) boot
+  pub right
+      : BootRight map.descriptors map.hosts table named.slots named.areas (cpus_in named) boot
   pub scripts_are : AreScriptsOf holds named scripts

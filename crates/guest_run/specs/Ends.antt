@@ -7,7 +7,7 @@ use Rattle.guest_input.specs.Causes.{IsKnownRefused}
 use Rattle.guest_input.specs.Files.{AreGood, AreKnownGood}
 use Rattle.guest_input.specs.Reading.{Reading}
 use Rattle.guest_input.specs.Stopping.{IsNotRead}
-use Rattle.guest_input.specs.Stops.{name_of, not_read_line, refused_line, words_line}
+use Rattle.guest_input.specs.Stops.{name_of, not_read_line, pool_line, refused_line, words_line}
 use Rattle.guest_input.specs.declared.stop.Cause.{Cause}
 use Rattle.guest_input.specs.declared.stop.InputFile.{InputFile}
 use Rattle.guest_input.specs.declared.stop.Stop.{Stop}
@@ -15,6 +15,7 @@ use Rattle.guest_text.specs.Printings.{CutAfter, PrintedAfter}
 use Rattle.guest_text.specs.Putting.{Putting, Put}
 use Rattle.guest_run.specs.declared.program.Ended.{Ended}
 use Rattle.guest_runs.specs.Asking.{Asking, PortsKept, Unasked}
+use Rattle.guest_run.specs.Room.{PoolHasKnownRoom, PoolHasRoom, PoolIsKnownRoomless}
 use Rattle.guest_run.specs.Stopping.{EndsWith, StopEnds, Stopped}
 
 -- How the program ends (own rule).
@@ -44,14 +45,16 @@ pub data Ending {P : Type 0} (o : Outside P) (arguments : Option Named)
   -- name is asked for, and no port is asked
   Unmatched : arguments ≡ None → Asks [] o.files → Unasked o.ports
       → EndsWith o.out words_line 2 ended → Ending o arguments ended
-  -- the run stopped before its text, with a cause: the cause's line with 3 (a file is refused), 4
-  -- (a file couldn't be read) or 7 (boot stopped), cut with 5, or nothing with 6
+  -- the run stopped before its text, with a cause: the cause's line with 3 (a file is refused, or the
+  -- pool has no room), 4 (a file couldn't be read) or 7 (boot stopped), cut with 5, or nothing with 6
   Stops : (named : Named) (stop : Stop) → arguments ≡ Some named
       → Stopped o.files o.ports named stop → StopEnds o.out named stop ended
       → Ending o arguments ended
-  -- a run is recorded, all files being read and good: its text with 0, cut with 5 or 6
+  -- a run is recorded, all files being read and good and the pool having room: its text with 0, cut
+  -- with 5 or 6
   Runs : (named : Named) (r : Recorded) → arguments ≡ Some named → AreGood o.files.holds named
-      → Asks (all_names named) o.files → RunEnds o.out r ended → Ending o arguments ended
+      → PoolHasRoom o.files.holds named → Asks (all_names named) o.files → RunEnds o.out r ended
+      → Ending o arguments ended
 
 -- The line says that a file, which isn't read after this one, couldn't be read, and so it is.
 abbrev pub SaysNotReadUpTo : InputFile → Reading → Putting → Named → Type 0
@@ -69,11 +72,27 @@ RefusesFirst o arguments status =
     ⊎ ((status ≡ 4) × SaysNotReadUpTo file o.files o.out named)
     ⊎ (status ≡ 5) ⊎ (status ≡ 6)
 
--- Where all files are known to be good, and no fault of files or sink was counted, the status is 0,
--- or 7 where boot stopped, or 6.
+-- the line says that a file couldn't be read, and so it is
+abbrev pub SaysNotRead : Reading → Putting → Named → Type 0
+SaysNotRead files out named =
+    (file : InputFile) × IsNotRead files named file × Put out (not_read_line (name_of named file))
+
+-- Where all files are known to be good, and the map to have no room for the pool, the status is 3
+-- with the line of that, or 4 where a file couldn't be read; or it is 5 or 6.
+abbrev pub RefusesPool : {P : Type 0} → Outside P → Option Named → ℕ → Type 0
+RefusesPool o arguments status =
+    (named : Named) → arguments ≡ Some named → AreKnownGood o.files.holds named
+    → PoolIsKnownRoomless o.files.holds named
+    → ((status ≡ 3) × Put o.out pool_line)
+    ⊎ ((status ≡ 4) × SaysNotRead o.files o.out named)
+    ⊎ (status ≡ 5) ⊎ (status ≡ 6)
+
+-- Where all files are known to be good, and the map to have room for the pool, and no fault of files
+-- or sink was counted, the status is 0, or 7 where boot stopped, or 6.
 abbrev pub Completes : {P : Type 0} → Outside P → Option Named → ℕ → Type 0
 Completes o arguments status =
     (named : Named) → arguments ≡ Some named → AreKnownGood o.files.holds named
+    → PoolHasKnownRoom o.files.holds named
     → (Rose o.files.faults_before o.files.faults_after → ⊥)
     → (Rose o.out.faults_before o.out.faults_after → ⊥)
     → (status ≡ 0) ⊎ (status ≡ 6) ⊎ (status ≡ 7)
@@ -90,6 +109,8 @@ pub record Ends {P : Type 0} (o : Outside P) (arguments : Option Named)
   pub ending : Ending o arguments ended
   -- a file that is known to be the first that is refused is refused
   pub first_refused : RefusesFirst o arguments ended.status
+  -- a pool that is known to have no room is refused
+  pub pool_refused : RefusesPool o arguments ended.status
   -- files that are known to be good are run
   pub complete : Completes o arguments ended.status
   -- the first of the named files were asked for, in their order, and no others

@@ -1,4 +1,5 @@
 pub mod Booted
+pub mod Room
 pub mod Boots
 pub mod Starting
 pub mod Stopping

@@ -6,19 +6,21 @@ use Rattle.guest_input.specs.Reading.{Reading}
 use Rattle.guest_input.specs.Stopping.{IsNotRead, RefusesFile}
 use Rattle.guest_input.specs.Stops.{stop_line, status_of}
 use Rattle.guest_input.specs.declared.stop.Stop.{Stop}
-use Rattle.guest_input.specs.declared.stop.Stop.TheVariants.{Refused, NotRead, Module, NoMemory}
+use Rattle.guest_input.specs.declared.stop.Stop.TheVariants.{Refused, NotRead, PoolNoRoom, Module, NoMemory}
 use Rattle.guest_text.specs.Putting.{Putting, Put, PutFront, PutNothing}
 use Rattle.guest_run.specs.declared.program.Ended.{Ended}
 use Rattle.guest_runs.specs.Asking.{Asking, Unasked}
-use Rattle.guest_run.specs.Boots.{BootStops, EndsWithoutMemory}
+use Rattle.guest_run.specs.Boots.{BootStops, EndsWithoutMemory, PoolStops}
 
 -- How a run ends before its text (own rule).
 
 -- The cause of a stop, the names that were asked for up to it, and what the ports were asked: at a
--- file that is refused or couldn't be read, nothing.
+-- file that is refused or couldn't be read, and at a pool that has no room, nothing.
 abbrev pub Stopped : {P : Type 0} → Reading → Asking P → Named → Stop → Type 0
 Stopped files ports named (Refused file cause) = RefusesFile files named file cause × Unasked ports
 Stopped files ports named (NotRead file) = IsNotRead files named file × Unasked ports
+Stopped files ports named PoolNoRoom =
+    PoolStops files.holds named × Asks (all_names named) files × Unasked ports
 Stopped files ports named Module =
     BootStops files.holds ports named × Asks (all_names named) files
 Stopped files ports named NoMemory =

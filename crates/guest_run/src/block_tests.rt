@@ -21,13 +21,34 @@ const ONE_PAGE: [u8; 60] = [
 ];
 
 /// `mem 7 0x100000 32512`.
-const CONVENTIONAL: [u8; 60] = [
+pub(crate) const CONVENTIONAL: [u8; 60] = [
     b'G', b'M', b'A', b'P', 40, 0, 0, 0, 1, 0, 0, 0, 1, 0, 0, 0, // the header
     7, 0, 0, 0, 0, 0, 0, 0, 0, 0, 16, 0, 0, 0, 0, 0, 0, 0, 0, 0, 0, 0, 0, 0, 0, 127, 0, 0, 0, 0, 0,
     0, 0, 0, 0, 0, 0, 0, 0, 0, 0, 0, 0, 0,
 ];
 
-/// Whether a script of one processor writes this text, on a thread and by turns, and makes so many entries.
+/// Whether a script of one processor writes this text with these options, on a thread and by turns, and makes so many entries.
+pub(crate) fn tells_with<R: Threads + Wait + Sync>(
+    rt: &R,
+    alloc: Global,
+    options: &str,
+    map: &[u8],
+    script: &[u8],
+    text: &[u8],
+    entries: u64,
+) -> Result<bool, AllocError> {
+    let words = format!(in alloc; "run {options} A s0")?;
+    let files = files_of(alloc, b"", map, script, b"", &[])?;
+    let mut ports = ports_failing(alloc, &[])?;
+    let status = ran(rt, alloc, words.as_str(), files, &mut ports, text)?;
+    let words = format!(in alloc; "turns O {options} A s0")?;
+    let files = files_of(alloc, b"", map, script, b"", &[])?;
+    let out = MemSink::new(alloc, Vec::new(alloc));
+    let ended = turned(alloc, words.as_str(), files, out, &[], text)?;
+    Ok(status == Some(0) && ended == Some((0, entries)))
+}
+
+/// The same without a pool.
 fn tells<R: Threads + Wait + Sync>(
     rt: &R,
     alloc: Global,
@@ -36,13 +57,7 @@ fn tells<R: Threads + Wait + Sync>(
     text: &[u8],
     entries: u64,
 ) -> Result<bool, AllocError> {
-    let files = files_of(alloc, b"", map, script, b"", &[])?;
-    let mut ports = ports_failing(alloc, &[])?;
-    let status = ran(rt, alloc, "run --slots 0 A s0", files, &mut ports, text)?;
-    let files = files_of(alloc, b"", map, script, b"", &[])?;
-    let out = MemSink::new(alloc, Vec::new(alloc));
-    let ended = turned(alloc, "turns O --slots 0 A s0", files, out, &[], text)?;
-    Ok(status == Some(0) && ended == Some((0, entries)))
+    tells_with(rt, alloc, "--slots 0", map, script, text, entries)
 }
 
 #[test]
@@ -138,20 +153,84 @@ const SIZES: [(u32, u32); 5] = [
     (3, 32_764),
 ];
 
-/// The script of one of some processors: it takes blocks, writes and reads their ends, and gives some of them back.
-fn script_of(alloc: Global, cpu: u32, round: u32) -> Result<String, AllocError>
+/// Those of blocks that are mapped.
+const MAPPED_SIZES: [(u32, u32); 5] = [
+    (6, 262_140),
+    (0, 4092),
+    (5, 131_068),
+    (6, 262_140),
+    (3, 32_764),
+];
+
+/// What the scripts of some processors do.
+#[derive(Clone, Copy)]
+pub(crate) enum Doing {
+    /// They take blocks, write and read their ends, and give some of them back; there is no pool.
+    Blocks,
+    /// They map smaller blocks too, more than the four areas of the pool hold, and play device and host.
+    Mappings,
+}
+
+/// The options of a guest.
+fn options_of(doing: Doing) -> &'static str {
+    match doing {
+        Doing::Blocks => "--slots 0",
+        Doing::Mappings => "--slots 512 --areas 4",
+    }
+}
+
+/// The sizes of the blocks that are taken.
+fn sizes_of(doing: Doing) -> [(u32, u32); 5] {
+    match doing {
+        Doing::Blocks => SIZES,
+        Doing::Mappings => MAPPED_SIZES,
+    }
+}
+
+/// The lines that map a block of a processor up to this place at most, move its bytes, mostly end the mapping, and read bytes back.
+fn map_lines(
+    text: &mut String,
+    cpu: u32,
+    number: u32,
+    round: u32,
+    end: u32,
+) -> Result<(), AllocError>
+    requires cpu { cpu < 8 }
+    requires number { number < 6 }
+    requires round { round < 1000 }
+{
+    let way = ["to", "from", "both"][((cpu + number + round) % 3) as usize];
+    let len = (50_021 * cpu + 29_989 * number + 997 * round) % end.max(1);
+    let place = 131_072 * cpu + 2048 * number;
+    let digit = 1 + (cpu + 3 * number) % 9;
+    writeln!(text, "map m{number} b{number} 1 {len} {way}")?;
+    writeln!(text, "dwrite m{number} 0 0{digit}\nsyncdev m{number} 0 1")?;
+    writeln!(text, "synccpu m{number} 0 1\nhostwrite {place} 0{digit}")?;
+    writeln!(text, "hostread {place} 4\ndread m{number} 0 1")?;
+    if (cpu + number + round) % 4 != 0 {
+        writeln!(text, "unmap m{number}")?;
+    }
+    writeln!(text, "read b{number} 0 4")?;
+    Ok(())
+}
+
+/// The script of one of some processors.
+fn script_of(alloc: Global, doing: Doing, cpu: u32, round: u32) -> Result<String, AllocError>
     requires cpu { cpu < 8 }
     requires round { round < 1000 }
 {
     let mut text = String::new(alloc);
     for number in 0..6 {
-        let (order, end) = SIZES[((cpu + 3 * number + round) % 5) as usize];
+        let (order, end) = sizes_of(doing)[((cpu + 3 * number + round) % 5) as usize];
         let digit = 1 + (7 * cpu + number) % 9;
         writeln!(text, "alloc b{number} {order}")?;
         writeln!(text, "read b{number} {end} 4")?;
         writeln!(text, "write b{number} {end} 0{digit}")?;
         writeln!(text, "fill b{number} 4 3 {digit}")?;
         writeln!(text, "load b{number} {end}\nload b{number} 0")?;
+        if let Doing::Mappings = doing {
+            map_lines(&mut text, cpu, number, round, end)?;
+        }
         if (cpu + number + round) % 3 != 0 {
             writeln!(text, "free b{number}")?;
         }
@@ -160,7 +239,13 @@ fn script_of(alloc: Global, cpu: u32, round: u32) -> Result<String, AllocError>
 }
 
 /// The files `O`, `A`, and `s0`, `s1` and so on, a script for each processor.
-fn guest_files(alloc: Global, order: &[u8], cpus: u32, round: u32) -> Result<MemFiles, AllocError>
+fn guest_files(
+    alloc: Global,
+    doing: Doing,
+    order: &[u8],
+    cpus: u32,
+    round: u32,
+) -> Result<MemFiles, AllocError>
     requires cpus { cpus ≤ 8 }
     requires round { round < 1000 }
 {
@@ -168,26 +253,33 @@ fn guest_files(alloc: Global, order: &[u8], cpus: u32, round: u32) -> Result<Mem
     files.push(named(alloc, "O", order)?)?;
     files.push(named(alloc, "A", &MAP)?)?;
     for cpu in 0..cpus {
-        let script = script_of(alloc, cpu, round)?;
+        let script = script_of(alloc, doing, cpu, round)?;
         files.push((format!(in alloc; "s{cpu}")?, script.into_bytes()))?;
     }
     Ok(MemFiles::new(alloc, files, Vec::new(alloc)))
 }
 
-/// These words, and behind them the names of the scripts.
-fn guest_words(alloc: Global, line: &str, cpus: u32) -> Result<Vec<String>, AllocError> {
-    let mut words = words_of(alloc, line)?;
+/// The words of a guest: these, its options, the map, and the names of the scripts.
+fn guest_words(
+    alloc: Global,
+    command: &str,
+    doing: Doing,
+    cpus: u32,
+) -> Result<Vec<String>, AllocError> {
+    let options = options_of(doing);
+    let line = format!(in alloc; "{command} {options} A")?;
+    let mut words = words_of(alloc, line.as_str())?;
     for cpu in 0..cpus {
         words.push(format!(in alloc; "s{cpu}")?)?;
     }
     Ok(words)
 }
 
-/// The calls of each port that fail in a round: in every other one none.
+/// The calls of each port that fail in a round: in every other one none, and never one of the two that boot makes with the pool.
 fn failing_in(round: u32) -> &'static [u64] {
     match round % 4 {
-        1 => &[1, 2, 7, 300],
-        3 => &[2, 3, 4, 515, 516],
+        1 => &[3, 4, 8, 300],
+        3 => &[4, 5, 6, 516, 517],
         _ => &[],
     }
 }
@@ -195,6 +287,7 @@ fn failing_in(round: u32) -> &'static [u64] {
 /// The text that the processors of a run write by turns in its order.
 fn text_again(
     alloc: Global,
+    doing: Doing,
     run: &Recorded,
     cpus: u32,
     round: u32,
@@ -203,8 +296,8 @@ fn text_again(
     requires round { round < 1000 }
 {
     let order = print_order(alloc, &order_of(alloc, run)?)?;
-    let words = guest_words(alloc, "turns O --slots 0 A", cpus)?;
-    let mut files = guest_files(alloc, order.as_slice(), cpus, round)?;
+    let words = guest_words(alloc, "turns O", doing, cpus)?;
+    let mut files = guest_files(alloc, doing, order.as_slice(), cpus, round)?;
     let mut out = MemSink::new(alloc, Vec::new(alloc));
     let mut ports = ports_failing(alloc, failing_in(round))?;
     let ended = plain(alloc, words.as_slice(), &mut files, &mut out, &mut ports);
@@ -215,14 +308,15 @@ fn text_again(
 fn agrees<R: Threads + Wait + Sync>(
     rt: &R,
     alloc: Global,
+    doing: Doing,
     cpus: u32,
     round: u32,
 ) -> Result<bool, AllocError>
     requires cpus { cpus ≤ 8 }
     requires round { round < 1000 }
 {
-    let words = guest_words(alloc, "run --slots 0 A", cpus)?;
-    let mut files = guest_files(alloc, b"", cpus, round)?;
+    let words = guest_words(alloc, "run", doing, cpus)?;
+    let mut files = guest_files(alloc, doing, b"", cpus, round)?;
     let mut out = MemSink::new(alloc, Vec::new(alloc));
     let mut ports = ports_failing(alloc, failing_in(round))?;
     let ended = top(
@@ -236,18 +330,25 @@ fn agrees<R: Threads + Wait + Sync>(
     let Some(run) = &ended.run else {
         return Ok(false);
     };
-    match text_again(alloc, run, cpus, round)? {
+    match text_again(alloc, doing, run, cpus, round)? {
         Some(again) => Ok(out.written() == again.written()),
         None => Ok(false),
     }
 }
 
 /// Whether so many runs of this many processors agree with turns.
-fn agree<R: Threads + Wait + Sync>(rt: &R, alloc: Global, cpus: u32) -> Result<bool, AllocError>
-    requires { cpus ≤ 8 }
+pub(crate) fn agree<R: Threads + Wait + Sync>(
+    rt: &R,
+    alloc: Global,
+    doing: Doing,
+    cpus: u32,
+    rounds: u32,
+) -> Result<bool, AllocError>
+    requires cpus { cpus ≤ 8 }
+    requires rounds { rounds ≤ 1000 }
 {
-    for round in 0..40 {
-        if !agrees(rt, alloc, cpus, round)? {
+    for round in 0..rounds {
+        if !agrees(rt, alloc, doing, cpus, round)? {
             return Ok(false);
         }
     }
@@ -256,12 +357,12 @@ fn agree<R: Threads + Wait + Sync>(rt: &R, alloc: Global, cpus: u32) -> Result<b
 
 #[test]
 fn two_processors_whose_blocks_meet(rt: HostRuntime) -> Result<(), Fail> {
-    assert!(rt; agree(&rt, rt.alloc(), 2)?);
+    assert!(rt; agree(&rt, rt.alloc(), Doing::Blocks, 2, 40)?);
     Ok(())
 }
 
 #[test]
 fn eight_processors_whose_blocks_meet(rt: HostRuntime) -> Result<(), Fail> {
-    assert!(rt; agree(&rt, rt.alloc(), 8)?);
+    assert!(rt; agree(&rt, rt.alloc(), Doing::Blocks, 8, 40)?);
     Ok(())
 }

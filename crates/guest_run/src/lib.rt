@@ -10,4 +10,6 @@ pub use program::{Ended, plain, top};
 #[cfg(test)]
 mod block_tests;
 #[cfg(test)]
+mod pool_tests;
+#[cfg(test)]
 mod tests;

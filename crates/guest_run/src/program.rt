@@ -1,11 +1,11 @@
 //! The program, from its arguments to its status.
-ghost use Rattle.std.specs.Prelude.{◌≡◌, ◌≤◌, [], None, Some, true, length, All, IfErr, IfNone, IfOk, IfSome, IsErrOf, IsSome, OnOk};
+ghost use Rattle.std.specs.Prelude.{◌≡◌, ◌≤◌, [], None, Some, length, All, IfErr, IfNone, IfOk, IfSome, IsErrOf, IsSome, OnOk};
 ghost use Rattle.guest_base.specs.declared.limits.TheConstants.{MAX_CPUS};
 ghost use Rattle.guest_input.specs.Reading.{reading};
 ghost use Rattle.guest_text.specs.Printings.{FinalRuns};
 ghost use Rattle.guest_text.specs.Putting.{putting};
 ghost use Rattle.guest_words.specs.Views.{named, seen};
-ghost use Rattle.guest_words.specs.Words.{bytes_of_words, cpus_in, is_cpus, named_by};
+ghost use Rattle.guest_words.specs.Words.{bytes_of_words, named_by, KeepsLimits};
 ghost use Rattle.guest_runs.specs.Asking.{asking};
 ghost use Rattle.guest_run.specs.Did.{by_turns, Did};
 ghost use Rattle.guest_run.specs.Ends.{outside, RunEnds};
@@ -25,8 +25,8 @@ use std::thread::Threads;
 /// How the program ended.
 #[derive(Debug, Drop)]
 pub struct Ended {
-    /// 0 done, 2 arguments that don't match the usage line, 3 a refused file, 4 a file that couldn't be read, 5 text that couldn't be
-    /// written, 6 out of memory, 7 a boot that stopped.
+    /// 0 done, 2 arguments that don't match the usage line, 3 a refused file or a pool that no range of memory holds, 4 a file that
+    /// couldn't be read, 5 text that couldn't be written, 6 out of memory, 7 a boot that stopped.
     pub status: u8,
     /// The run, where there was one.
     pub run: Option<Recorded>,
@@ -86,7 +86,7 @@ fn end_with_run<K: Sink>(alloc: Global, out: &mut K, recorded: Recorded, runs: &
 /// What the words name, where they name an order: a run by turns.
 fn names_by_turns(words: &[String]) -> Option<Names<'_>>
     ensures named { named result ≡ by_turns (named_by (bytes_of_words words.now)) }
-    ensures cpus { IfSome result (λ names. is_cpus (cpus_in (seen names)) ≡ true) }
+    ensures limits { IfSome result (λ names. KeepsLimits (seen names)) }
     ensures ordered { IfSome result (λ names. IsSome (seen names).order) }
 {
     let names = read_words(words)?;
@@ -101,7 +101,7 @@ fn names_by_turns(words: &[String]) -> Option<Names<'_>>
 fn names_on_threads(words: &[String]) -> Option<Names<'_>>
     ensures named { IfSome result (λ names.
         named_by (bytes_of_words words.now) ≡ Some (seen names)) }
-    ensures cpus { IfSome result (λ names. is_cpus (cpus_in (seen names)) ≡ true) }
+    ensures limits { IfSome result (λ names. KeepsLimits (seen names)) }
     ensures unordered { IfSome result (λ names. (seen names).order ≡ None) }
     ensures none { IfNone result (by_turns (named_by (bytes_of_words words.now))
         ≡ named_by (bytes_of_words words.now)) }
@@ -133,15 +133,16 @@ fn end_run<K: Sink>(
     }
 }
 
-/// Does what the arguments say, on one thread. `turns ORDER --slots 0 MAP SCRIPT..` reads the files in this order, boots the map
-/// without a pool and with a processor for each of the 1 to 64 scripts, runs each script on the port of its processor, by turns in
-/// the order of ORDER and then round all processors until every script is done, and puts the text of the run.
+/// Does what the arguments say, on one thread. `turns ORDER MAP SCRIPT..` reads the files in this order, boots the map with a processor
+/// for each of the 1 to 64 scripts, runs each script on the port of its processor, by turns in the order of ORDER and then round all
+/// processors until every script is done, and puts the text of the run.
 ///
-/// `--table FILE` names the table of unaccepted units that an earlier kernel hands on. It is read right after the map, and boot takes
-/// its bits for those of the map. `--areas N` gives the areas of the pool, a power of two from 1 to 64; without it there are as many
-/// as scripts, raised to a power of two. `read_words` tells where options may stand.
+/// `--slots N` asks for so many slots of the bounce-buffer pool, 0 to 131,072; without it for 32,768, and with 0 there is no pool.
+/// `--areas N` gives its areas, a power of two from 1 to 64; without it there are as many as scripts, raised to a power of two. Boot
+/// raises the count of slots, and places the pool. `--table FILE` names the table of unaccepted units that an earlier kernel hands on. It
+/// is read right after the map, and boot takes its bits for those of the map. `read_words` tells where options may stand.
 ///
-/// A script with a command other than `accept`, `query`, `alloc`, `free`, `read`, `write`, `fill` and `load` is refused.
+/// A script with one of the commands `share`, `private` and `giveback` is refused.
 ///
 /// It takes no lock and always returns. Other arguments, those of a run on threads among them, are refused with status 2. `Did` says
 /// what came of it.
@@ -169,8 +170,8 @@ pub fn plain<F: Files, K: Sink, P: Port + Send>(
     }
 }
 
-/// Does what the arguments say. `run --slots 0 MAP SCRIPT..` does what `turns` does, but with a thread for each script, which waits for
-/// a lock where it needs the memory; it reads no order, and it returns only if that waiting ends. All else is done by `plain`.
+/// Does what the arguments say. `run MAP SCRIPT..` does what `turns` does, but with a thread for each script, which waits for a lock
+/// where it needs the memory or an area of the pool; it reads no order, and it returns only if that waiting ends. All else is done by `plain`.
 ///
 /// `Did` says what came of it.
 pub fn top<R: Threads + Wait + Sync, F: Files, K: Sink, P: Port + Send>(

@@ -1,9 +1,9 @@
 //! A run, from its files to its history.
-ghost use Rattle.std.specs.Prelude.{◌≡◌, ◌≤◌, [], None, Some, true, length, All, IsSome};
+ghost use Rattle.std.specs.Prelude.{◌≡◌, ◌≤◌, [], None, Some, length, All, IsSome};
 ghost use Rattle.guest_base.specs.declared.limits.TheConstants.{MAX_CPUS};
 ghost use Rattle.guest_input.specs.Reading.{reading};
 ghost use Rattle.guest_words.specs.Views.{seen};
-ghost use Rattle.guest_words.specs.Words.{cpus_in, is_cpus};
+ghost use Rattle.guest_words.specs.Words.{KeepsLimits};
 ghost use Rattle.guest_runs.specs.Asking.{asking};
 ghost use Rattle.guest_run.specs.Ran.{Ran};
 
@@ -36,7 +36,7 @@ pub(crate) fn run_by_turns<F: Files, P: Port + Send>(
     files: &mut F,
     ports: &mut Vec<P>,
 ) -> Result<(Recorded, Runs), Stop>
-    requires cpus { is_cpus (cpus_in (seen names.now)) ≡ true }
+    requires limits { KeepsLimits (seen names.now) }
     requires ports { MAX_CPUS ≤ length ports.old.items }
     requires unmade { All (λ port. P.made port ≡ []) ports.old.items }
     requires ordered { IsSome (seen names.now).order }
@@ -63,7 +63,7 @@ pub(crate) fn run_on_threads<R: Threads + Wait + Sync, F: Files, P: Port + Send>
     files: &mut F,
     ports: &mut Vec<P>,
 ) -> Result<(Recorded, Runs), Stop>
-    requires cpus { is_cpus (cpus_in (seen names.now)) ≡ true }
+    requires limits { KeepsLimits (seen names.now) }
     requires ports { MAX_CPUS ≤ length ports.old.items }
     requires unmade { All (λ port. P.made port ≡ []) ports.old.items }
     requires unordered { (seen names.now).order ≡ None }

@@ -9,10 +9,10 @@ use Rattle.event_core.specs.declared.boot.Recorded.{Recorded}
 use Rattle.event_core.specs.declared.entry.Entry.{Entry}
 use Rattle.event_core.specs.declared.module_call.ModuleCall.{ModuleCall}
 use Rattle.event_core.specs.Turns.{entries_by}
-use Rattle.memory_core.specs.Value.{MemoryValue}
+use Rattle.guest_steps.specs.Ground.{Ground}
 use Rattle.guest_steps.specs.Replies.{calls_reported, some_module}
 use Rattle.guest_steps.specs.Running.{AreOf}
-use Rattle.guest_steps.specs.Seen.{Seen}
+use Rattle.guest_steps.specs.Seen.{Seen, entries_made}
 use Rattle.guest_steps.specs.Standing.{Together, unreported}
 use Rattle.guest_steps.proofs.TogetherLemmas.{list-none, list-some}
 use Rattle.guest_runs.specs.Asking.{asking, EachKept, ModuleFailed, OthersUnmade, PortsKept, PortsMade, first_made, port_calls}
@@ -62,48 +62,48 @@ module _ {P : Type 0} (made : P → List ModuleCall) (faults : P → ℕ) (never
 
   -- Processors that stand together ran on the first of these ports, of which the first had made
   -- boot's calls and the others none.
-  pub record RanHere (boot : Boot) (all : List Seen) (memory : MemoryValue) (olds news rest : List P) : Type 0 where
-    pub together : Together boot all memory
+  pub record RanHere (boot : Boot) (all : List Seen) (base : Ground) (olds news rest : List P) : Type 0 where
+    pub together : Together boot all base
     pub ran : EachRan made faults never olds all news
     pub first : first_made made (olds ++ rest) ≡ boot.calls
     pub others : OthersUnmade made (olds ++ rest)
 
-  asked-of : (boot : Boot) (all : List Seen) (memory : MemoryValue) (olds news rest : List P) (r : Recorded) → RanHere boot all memory olds news rest → r.boot ≡ boot → AreOf all r.entries → (cpu : ℕ) (new : P) → PortAt olds all rest cpu new → made new ≡ port_calls r cpu
-  asked-of boot all memory olds news rest r here same are cpu new (Ran old c at_old at ran) =
+  asked-of : (boot : Boot) (all : List Seen) (base : Ground) (olds news rest : List P) (r : Recorded) → RanHere boot all base olds news rest → r.boot ≡ boot → AreOf all r.entries → (cpu : ℕ) (new : P) → PortAt olds all rest cpu new → made new ≡ port_calls r cpu
+  asked-of boot all base olds news rest r here same are cpu new (Ran old c at_old at ran) =
       let tells = (here.together.each cpu c at).2.port in
       let had : c.made_before ≡ cond (cpu == 0) boot.calls [] = ran.made_before ∙ had-made (olds ++ rest) boot.calls here.first here.others cpu old at_old in
-      let has : entries_by cpu r.entries ≡ c.entries = are cpu ∙ list-some all cpu c at in
-      let told : c.made ≡ c.made_before ++ calls_reported c.entries ++ [] = tells.made ∙ ap (λ d. c.made_before ++ calls_reported c.entries ++ unreported d) ran.reported in
-      sym ran.made_after ∙ told ∙ append-nil (c.made_before ++ calls_reported c.entries)
-      ∙ ap (λ calls. calls ++ calls_reported c.entries) had
+      let has : entries_by cpu r.entries ≡ entries_made c = are cpu ∙ list-some all cpu c at in
+      let told : c.made ≡ c.made_before ++ calls_reported (entries_made c) ++ [] = tells.made ∙ ap (λ d. c.made_before ++ calls_reported (entries_made c) ++ unreported d) ran.reported in
+      sym ran.made_after ∙ told ∙ append-nil (c.made_before ++ calls_reported (entries_made c))
+      ∙ ap (λ calls. calls ++ calls_reported (entries_made c)) had
       ∙ ap (λ es. cond (cpu == 0) boot.calls [] ++ calls_reported es) (sym has)
       ∙ ap (λ (b : Boot). cond (cpu == 0) b.calls [] ++ calls_reported (entries_by cpu r.entries)) (sym same)
-  asked-of boot all memory olds news rest r here same are cpu new (Behind none at) =
+  asked-of boot all base olds news rest r here same are cpu new (Behind none at) =
       let has : entries_by cpu r.entries ≡ [] = are cpu ∙ list-none all cpu none in
       had-made (olds ++ rest) boot.calls here.first here.others cpu new at
       ∙ sym (append-nil (cond (cpu == 0) boot.calls []))
       ∙ ap (λ es. cond (cpu == 0) boot.calls [] ++ calls_reported es) (sym has)
       ∙ ap (λ (b : Boot). cond (cpu == 0) b.calls [] ++ calls_reported (entries_by cpu r.entries)) (sym same)
 
-  pub ports-made : (boot : Boot) (all : List Seen) (memory : MemoryValue) (olds news rest : List P) (r : Recorded) → RanHere boot all memory olds news rest → r.boot ≡ boot → AreOf all r.entries → PortsMade (asking made faults never (olds ++ rest) (news ++ rest)) r
-  ports-made boot all memory olds news rest r here same are cpu port at =
-      asked-of boot all memory olds news rest r here same are cpu port (port-at olds all news rest cpu port here.ran at)
+  pub ports-made : (boot : Boot) (all : List Seen) (base : Ground) (olds news rest : List P) (r : Recorded) → RanHere boot all base olds news rest → r.boot ≡ boot → AreOf all r.entries → PortsMade (asking made faults never (olds ++ rest) (news ++ rest)) r
+  ports-made boot all base olds news rest r here same are cpu port at =
+      asked-of boot all base olds news rest r here same are cpu port (port-at olds all news rest cpu port here.ran at)
 
-  failed-of : (boot : Boot) (all : List Seen) (memory : MemoryValue) (olds news rest : List P) (entries : List Entry) → RanHere boot all memory olds news rest → AreOf all entries → (cpu : ℕ) (old new : P) → slice_get (olds ++ rest) cpu ≡ Some old → PortAt olds all rest cpu new → some_module (entries_by cpu entries) ≡ true → Rose (faults old) (faults new)
-  failed-of boot all memory olds news rest entries here are cpu old new at_old (Ran before c at_before at ran) some =
+  failed-of : (boot : Boot) (all : List Seen) (base : Ground) (olds news rest : List P) (entries : List Entry) → RanHere boot all base olds news rest → AreOf all entries → (cpu : ℕ) (old new : P) → slice_get (olds ++ rest) cpu ≡ Some old → PortAt olds all rest cpu new → some_module (entries_by cpu entries) ≡ true → Rose (faults old) (faults new)
+  failed-of boot all base olds news rest entries here are cpu old new at_old (Ran before c at_before at ran) some =
       let tells = (here.together.each cpu c at).2.port in
       let same : before ≡ old = (let both : Some before ≡ Some old = sym at_before ∙ at_old in cc) in
-      let has : entries_by cpu entries ≡ c.entries = are cpu ∙ list-some all cpu c at in
+      let has : entries_by cpu entries ≡ entries_made c = are cpu ∙ list-some all cpu c at in
       subst (λ n. Rose n (faults new)) (ran.faults_before ∙ ap faults same)
       (subst (λ n. Rose c.faults_before n) ran.faults_after (tells.failed (sym (ap some_module has) ∙ some)))
-  failed-of boot all memory olds news rest entries here are cpu old new at_old (Behind none at) some =
+  failed-of boot all base olds news rest entries here are cpu old new at_old (Behind none at) some =
       let has : entries_by cpu entries ≡ [] = are cpu ∙ list-none all cpu none in
       let no : false ≡ true = sym (ap some_module has) ∙ some in
       cc
 
-  pub module-failed : (boot : Boot) (all : List Seen) (memory : MemoryValue) (olds news rest : List P) (r : Recorded) → RanHere boot all memory olds news rest → AreOf all r.entries → ModuleFailed (asking made faults never (olds ++ rest) (news ++ rest)) r
-  module-failed boot all memory olds news rest r here are cpu old new at_old at_new some =
-      failed-of boot all memory olds news rest r.entries here are cpu old new at_old (port-at olds all news rest cpu new here.ran at_new) some
+  pub module-failed : (boot : Boot) (all : List Seen) (base : Ground) (olds news rest : List P) (r : Recorded) → RanHere boot all base olds news rest → AreOf all r.entries → ModuleFailed (asking made faults never (olds ++ rest) (news ++ rest)) r
+  module-failed boot all base olds news rest r here are cpu old new at_old at_new some =
+      failed-of boot all base olds news rest r.entries here are cpu old new at_old (port-at olds all news rest cpu new here.ran at_new) some
 
   -- ---- the ports that come back
 
@@ -130,8 +130,8 @@ module _ {P : Type 0} (made : P → List ModuleCall) (faults : P → ℕ) (never
   same-length (old ∷ olds) [] news ran = absurd ran
   same-length (old ∷ olds) (c ∷ all) [] ran = absurd ran
 
-  pub ports-kept : (boot : Boot) (all : List Seen) (memory : MemoryValue) (olds news rest : List P) (cpus : ℕ) → RanHere boot all memory olds news rest → cpus ≡ length all → PortsKept cpus (asking made faults never (olds ++ rest) (news ++ rest))
-  ports-kept boot all memory olds news rest cpus here count =
+  pub ports-kept : (boot : Boot) (all : List Seen) (base : Ground) (olds news rest : List P) (cpus : ℕ) → RanHere boot all base olds news rest → cpus ≡ length all → PortsKept cpus (asking made faults never (olds ++ rest) (news ++ rest))
+  ports-kept boot all base olds news rest cpus here count =
       let long = same-length olds all news here.ran in
       record {
         each = each-kept olds all news rest (λ cpu c at. (here.together.each cpu c at).2.port.faults) here.ran;

@@ -1,8 +1,11 @@
-use Rattle.std.specs.Prelude.{ℕ, List, [], ◌∷◌, ◌++◌, Option, None, Some, Result, IfOk, OnOk, ◌≡◌, ◌+◌, length, map, reverse}
+use Rattle.std.specs.Prelude.{ℕ, List, [], ◌∷◌, ◌++◌, Option, None, Some, Result, Vec, IfOk, OnOk, ◌≡◌, ◌+◌, length, map, reverse}
+use Rattle.std.specs.declared.alloc.Global.{Global}
 use Rattle.event_core.specs.declared.boot.Boot.{Boot}
 use Rattle.event_core.specs.declared.command.Command.{Command}
 use Rattle.event_core.specs.declared.entry.Entry.{Entry}
 use Rattle.event_core.specs.declared.module_call.ModuleCall.{ModuleCall}
+use Rattle.guest_steps.specs.Ground.{Ground, ground_of}
+use Rattle.io_areas.specs.Value.{AreaValue}
 use Rattle.memory_core.specs.Value.{MemoryValue}
 use Rattle.guest_cpu.specs.declared.cpu.Cpu.{Cpu}
 use Rattle.guest_boot.specs.declared.world.World.{World}
@@ -47,22 +50,29 @@ EachRan made faults NeverFails (old ∷ olds) (c ∷ all) (new ∷ news) =
     RanOn made faults NeverFails old c new × EachRan made faults NeverFails olds all news
 EachRan made faults NeverFails _ _ _ = ⊥
 
--- Processors of a boot stand before its memory, and all have finished. These are their scripts and
--- their entries.
-pub record HaveFinished (boot : Boot) (all : List Seen) (memory : MemoryValue)
+-- Processors of a boot stand over its memory and areas, and all have finished. These are their
+-- scripts and their entries.
+pub record HaveFinished (boot : Boot) (all : List Seen) (base : Ground)
     (scripts : List (List Command)) (lists : List (List Entry)) : Type 0 where
-  pub together : Together boot all memory
+  pub together : Together boot all base
   pub finished : AllFinished all
   pub scripts_are : scripts ≡ scripts_of all
   pub lists_are : lists ≡ lists_of all
 
+-- the memory and the areas that a run leaves
+abbrev pub Places : Type 0
+Places = MemoryValue × Vec AreaValue Global
+
+abbrev pub ground_at : Places → Ground
+ground_at places = ground_of places.0 places.1.items
+
 -- Processors ran on the first of these ports, from a booted world and with these scripts, in an
 -- order of turns where there is one. They stand together; and where memory didn't run out all have
--- finished, before the memory that is left. The other ports are left in reverse order.
+-- finished, over the memory and the areas that are left. The other ports are left in reverse order.
 pub record HaveRun {P E : Type 0} (made : P → List ModuleCall) (faults : P → ℕ)
     (NeverFails : P → Type 0) (world : World) (scripts : List (List Command))
     (order : Option (List ℕ)) (before left : List P) (all : List (Cpu P))
-    (memory : Result MemoryValue E) : Type 0 where
+    (ended : Result Places E) : Type 0 where
   pub begins : Begins made world scripts before
   pub olds : List (Cpu P)
   pub before_is : before ≡ ports_of olds ++ reverse left
@@ -70,9 +80,9 @@ pub record HaveRun {P E : Type 0} (made : P → List ModuleCall) (faults : P →
       ≡ first_on made faults world.boot 0 scripts (ports_of olds)
   pub count : length olds ≡ length scripts
   pub later : EachLater (seen_by made faults) (λ c. NeverFails c.port) olds all
-  pub stood : MemoryValue
-  pub memory_is : IfOk memory (λ m. m ≡ stood)
+  pub stood : Ground
+  pub ground_is : IfOk ended (λ places. ground_at places ≡ stood)
   pub together : Together world.boot (map (seen_by made faults) all) stood
-  pub finished : OnOk memory (AllFinished (map (seen_by made faults) all))
+  pub finished : OnOk ended (AllFinished (map (seen_by made faults) all))
   pub turned : (turns : List ℕ) → order ≡ Some turns
-      → OnOk memory (TurnedBy world.boot (map (seen_by made faults) all) turns)
+      → OnOk ended (TurnedBy world.boot (map (seen_by made faults) all) turns)

@@ -16,8 +16,8 @@ use std::alloc::{AllocError, Global};
 /// Runs a script on each processor of a world by turns, on one thread and without a lock: turns in this order, and then rounds of
 /// all processors, until every command has its reply. Tells what is recorded, and the final runs of pages.
 ///
-/// There are 1 to 64 scripts, one for each processor of the boot, of at most 2,048 commands, which are about ranges of memory and
-/// about blocks. Every number of the order is below the number of scripts. The ports are at least as many; processor n runs on
+/// There are 1 to 64 scripts, one for each processor of the boot, of at most 2,048 commands, which convert no
+/// block. Every number of the order is below the number of scripts. The ports are at least as many; processor n runs on
 /// port n, and boot made its calls on the first. Whatever the answer, the ports stand in their places again.
 ///
 /// An error comes only where memory runs out; the ports' calls are then those of a legal history of the scripts, which needn't be
@@ -43,9 +43,21 @@ pub fn turns<P: Port + Send>(
     ensures kept { PortsKept (length scripts)
         (asking P.made P.faults P.never_fails ports.old.items ports.new.items) }
 {
-    let World { boot, mut memory } = world;
+    let World {
+        boot,
+        mut memory,
+        mut areas,
+        ..
+    } = world;
     let left = Left::with_room(alloc, scripts.len())?;
     let mut all = start_all(alloc, &boot, scripts, ports)?;
-    let answer = guest_turns::turns(alloc, &mut memory, &mut all, order);
-    close(alloc, boot, answer.and(Ok(memory)), all, ports, left)
+    let answer = guest_turns::turns(alloc, &mut memory, &mut areas, &mut all, order);
+    close(
+        alloc,
+        boot,
+        answer.and(Ok((memory, areas))),
+        all,
+        ports,
+        left,
+    )
 }

@@ -8,15 +8,13 @@ ghost use Rattle.guest_threads.specs.Seated.{AllSeated, Seated};
 ghost use Rattle.gate_port.specs.Gate.{calls_made, faults_of, room_of};
 
 use crate::seats::start_all;
-use claim_lock::{ClaimLock, Pass};
 use event_core::{Command, Entries, NoRoom, Reply, Script, Scripts};
 use gate_port::GatePort;
 use guest_base::{Items, Pages};
 use guest_boot::{World, boot};
 use guest_cpu::Cpu;
 use guest_map::GuestMap;
-use guest_threads::{Driven, lock_memory, run_one};
-use memory_core::Memory;
+use guest_threads::{Driven, Locks, Passes, lock_all, run_one};
 use page_module::Port;
 use std::alloc::{AllocError, Global};
 use std::sync::Wait;
@@ -24,18 +22,18 @@ use std::test::Fail;
 use std::thread;
 use std::thread::Threads;
 
-/// Runs a processor with its pass, and tells how it ended.
+/// Runs a processor with its passes, and tells how it ended.
 fn run_with<R: Wait>(
     rt: &R,
     alloc: Global,
-    lock: &ClaimLock<Memory>,
-    pass: Pass<Memory>,
+    locks: &Locks,
+    passes: Passes,
     cpu: &mut Cpu<GatePort>,
 ) -> Result<(), NoRoom>
     requires { Seated (seen_by calls_made faults_of) (CpuStands calls_made faults_of room_of)
-        lock.now pass cpu.old }
+        locks.now passes cpu.old }
 {
-    let Driven { pass: _, answer } = run_one(rt, alloc, lock, pass, cpu);
+    let Driven { passes: _, answer } = run_one(rt, alloc, locks, passes, cpu);
     answer
 }
 
@@ -48,21 +46,21 @@ fn last_reply(entries: &Entries) -> Option<&Reply> {
 fn run_both<R: Threads + Wait + Sync>(
     rt: &R,
     alloc: Global,
-    lock: &ClaimLock<Memory>,
-    passes: (Pass<Memory>, Pass<Memory>),
+    locks: &Locks,
+    passes: (Passes, Passes),
     cpu: &mut Cpu<GatePort>,
     other: &mut Cpu<GatePort>,
 ) -> (Result<(), NoRoom>, Result<(), NoRoom>)
     requires first { Seated (seen_by calls_made faults_of) (CpuStands calls_made faults_of room_of)
-        lock.now passes.0 cpu.old }
+        locks.now passes.0 cpu.old }
     requires second { Seated (seen_by calls_made faults_of) (CpuStands calls_made faults_of room_of)
-        lock.now passes.1 other.old }
+        locks.now passes.1 other.old }
 {
-    let (pass, other_pass) = passes;
+    let (mine, others) = passes;
     thread::join(
         rt,
-        || run_with(rt, alloc, lock, pass, cpu),
-        || run_with(rt, alloc, lock, other_pass, other),
+        || run_with(rt, alloc, locks, mine, cpu),
+        || run_with(rt, alloc, locks, others, other),
     )
 }
 
@@ -75,7 +73,7 @@ fn gated(alloc: Global) -> Result<(World, Vec<GatePort>), Fail>
     let mut ports = vec![in alloc; one, other]?;
     let (first, count) = (1024, 4096);
     let map = GuestMap::unaccepted(alloc, Pages { first, count })?;
-    match boot(alloc, &map, None, 1, 2, &mut ports[0]) {
+    match boot(alloc, &map, None, 0, 1, 2, &mut ports[0]) {
         Ok(world) => Ok((world, ports)),
         Err(_) => Err(Fail::from("no world")),
     }
@@ -98,39 +96,45 @@ fn apart(alloc: Global) -> Result<Scripts, AllocError>
     Ok(Items::from_vec(vec![in alloc; near, far]?))
 }
 
-/// The lock of such a guest's memory, the passes and the processors.
+/// The locks of such a guest, the passes and the processors.
 struct Seats {
-    lock: ClaimLock<Memory>,
-    passes: Vec<Pass<Memory>>,
+    locks: Locks,
+    passes: Vec<Passes>,
     all: Vec<Cpu<GatePort>>,
 }
 
 fn seats_of(alloc: Global) -> Result<Seats, Fail>
     ensures seated { IfOk result (λ s. AllSeated (seen_by calls_made faults_of)
-        (CpuStands calls_made faults_of room_of) s.lock s.passes.items s.all.items) }
+        (CpuStands calls_made faults_of room_of) s.locks s.passes.items s.all.items) }
     ensures two { IfOk result (λ s. length s.all.items ≡ 2) }
 {
-    let (World { boot, memory }, mut ports) = gated(alloc)?;
+    let (world, mut ports) = gated(alloc)?;
+    let World {
+        boot,
+        memory,
+        areas,
+        ..
+    } = world;
     let all = start_all(alloc, &boot, apart(alloc)?, &mut ports)?;
-    let (lock, passes) = lock_memory(alloc, memory, &all)?;
-    Ok(Seats { lock, passes, all })
+    let (locks, passes, _) = lock_all(alloc, memory, areas, &all)?;
+    Ok(Seats { locks, passes, all })
 }
 
 #[test]
 fn two_accept_side_by_side(rt: HostRuntime) -> Result<(), Fail> {
     let alloc = rt.alloc();
     let Seats {
-        lock,
+        locks,
         mut passes,
         mut all,
     } = seats_of(alloc)?;
-    let (other_pass, pass) = (passes.take_last(), passes.take_last());
+    let (others, mine) = (passes.take_last(), passes.take_last());
     let (mut other, mut cpu) = (all.take_last(), all.take_last());
-    let (one, two) = run_both(&rt, alloc, &lock, (pass, other_pass), &mut cpu, &mut other);
+    let (one, two) = run_both(&rt, alloc, &locks, (mine, others), &mut cpu, &mut other);
     assert!(rt; one.is_ok() && two.is_ok());
     let (_, _, entries) = cpu.finish();
-    let (_, _, others) = other.finish();
+    let (_, _, other_entries) = other.finish();
     assert!(rt; matches!(last_reply(&entries), Some(Reply::Count(1))));
-    assert!(rt; matches!(last_reply(&others), Some(Reply::Count(1))));
+    assert!(rt; matches!(last_reply(&other_entries), Some(Reply::Count(1))));
     Ok(())
 }

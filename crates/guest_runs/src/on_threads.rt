@@ -15,10 +15,10 @@ use std::sync::Wait;
 use std::thread::Threads;
 
 /// Runs a script on each processor of a world on threads, one for each processor, until every command has its reply. The processors
-/// meet in the lock of the memory alone. Tells what is recorded, and the final runs of pages.
+/// meet in the locks of the memory and of the areas alone. Tells what is recorded, and the final runs of pages.
 ///
-/// There are 1 to 64 scripts, one for each processor of the boot, of at most 2,048 commands, which are about ranges of memory and
-/// about blocks. The ports are at least as many; processor n runs on port n, and boot made its calls on the first. Whatever the
+/// There are 1 to 64 scripts, one for each processor of the boot, of at most 2,048 commands, which convert no
+/// block. The ports are at least as many; processor n runs on port n, and boot made its calls on the first. Whatever the
 /// answer, the ports stand in their places again.
 ///
 /// An error comes only where memory runs out; the ports' calls are then those of a legal history of the scripts, which needn't be
@@ -42,9 +42,14 @@ pub fn run_threads<R: Threads + Wait + Sync, P: Port + Send>(
     ensures kept { PortsKept (length scripts)
         (asking P.made P.faults P.never_fails ports.old.items ports.new.items) }
 {
-    let World { boot, memory } = world;
+    let World {
+        boot,
+        memory,
+        areas,
+        ..
+    } = world;
     let left = Left::with_room(alloc, scripts.len())?;
     let mut all = start_all(alloc, &boot, scripts, ports)?;
-    let memory = guest_threads::run_threads(rt, alloc, memory, &mut all);
-    close(alloc, boot, memory, all, ports, left)
+    let places = guest_threads::run_threads(rt, alloc, memory, areas, &mut all);
+    close(alloc, boot, places, all, ports, left)
 }

@@ -7,7 +7,9 @@ ghost use Rattle.event_core.specs.MemoryRows.{page_state};
 ghost use Rattle.event_core.specs.Runs.{AreMaximalRuns};
 ghost use Rattle.event_core.specs.Turns.{entries_by};
 ghost use Rattle.guest_boot.specs.declared.world.World.{World as WorldValue};
+ghost use Rattle.guest_steps.specs.Ground.{ground_of};
 ghost use Rattle.guest_steps.specs.Seen.{Seen};
+ghost use Rattle.io_areas.specs.Value.{AreaValue};
 ghost use Rattle.guest_runs.specs.Asking.{asking};
 ghost use Rattle.guest_runs.specs.OnPorts.{HaveFinished, HaveRun};
 ghost use Rattle.guest_runs.specs.Recordings.{Tells};
@@ -17,20 +19,21 @@ use event_core::{Boot, Recorded, Runs};
 use guest_base::Items;
 use guest_cpu::Cpu;
 use guest_history::gather;
+use io_areas::Area;
 use memory_core::Memory;
 use page_module::Port;
 use std::alloc::{AllocError, Global};
 
 /// The run of processors that have finished, by the scripts and the entries that they left, and the final runs of pages, by the
-/// memory before which they stand.
+/// memory over which they stand, with areas that aren't needed any more.
 pub(crate) fn recorded(
     alloc: Global,
     boot: Boot,
     memory: Memory,
     left: Left,
 ) -> Result<(Recorded, Runs), AllocError>
-    requires { (all : List Seen)
-        × HaveFinished boot all memory left.scripts.items left.lists.items }
+    requires { (all : List Seen) × (areas : List AreaValue)
+        × HaveFinished boot all (ground_of memory areas) left.scripts.items left.lists.items }
     ensures boot { IfOk result (λ r. r.0.boot ≡ boot) }
     ensures scripts { IfOk result (λ r. r.0.scripts ≡ left.scripts.items) }
     ensures entries { IfOk result (λ r. (cpu : ℕ) →
@@ -50,7 +53,7 @@ pub(crate) fn recorded(
 pub(crate) fn close<P: Port>(
     alloc: Global,
     boot: Boot,
-    memory: Result<Memory, AllocError>,
+    places: Result<(Memory, Vec<Area>), AllocError>,
     all: Vec<Cpu<P>>,
     ports: &mut Vec<P>,
     mut left: Left,
@@ -63,13 +66,14 @@ pub(crate) fn close<P: Port>(
     requires run { (world : WorldValue) × (scripts : List (List CommandValue))
         × (order : Option (List ℕ)) × (before : List P) × (world.boot ≡ boot)
         × HaveRun P.made P.faults P.never_fails world scripts order before
-        ports.old.items all.items memory }
+        ports.old.items all.items places }
     ensures { (world : WorldValue) (scripts : List (List CommandValue))
         (order : Option (List ℕ)) (before : List P) → world.boot ≡ boot
         → HaveRun P.made P.faults P.never_fails world scripts order before
-        ports.old.items all.items memory → Tells
+        ports.old.items all.items places → Tells
         (asking P.made P.faults P.never_fails before ports.new.items) order boot scripts result }
 {
     finish_all(all, ports, &mut left);
-    recorded(alloc, boot, memory?, left)
+    let (memory, _) = places?;
+    recorded(alloc, boot, memory, left)
 }

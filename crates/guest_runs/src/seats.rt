@@ -1,8 +1,12 @@
 //! Processors on their ports: how they come to them, and what they leave.
 ghost use Rattle.std.specs.Prelude.{◌≡◌, ◌++◌, ◌+◌, ◌≤◌, List, [], All, IfOk, OnErr, length, map, reverse, vec_len, vec_capacity};
+ghost use Rattle.std.specs.Option.{ForSome};
 ghost use Rattle.block_laws.specs.Runnable.{IsRunnable};
-ghost use Rattle.memory_core.specs.Value.{MemoryValue};
+ghost use Rattle.dma_map.specs.Pools.{IsLayout};
+ghost use Rattle.guest_steps.specs.Ground.{Ground};
+ghost use Rattle.guest_steps.specs.Seen.{entries_made};
 ghost use Rattle.guest_steps.specs.Standing.{Stands};
+ghost use Rattle.guest_cpu.specs.Layouts.{layout_in};
 ghost use Rattle.guest_cpu.specs.Standing.{CpuStands, seen_by};
 ghost use Rattle.guest_runs.specs.OnPorts.{first_on, ports_of};
 
@@ -33,15 +37,16 @@ pub(crate) fn start_all<P: Port>(
 ) -> Result<Vec<Cpu<P>>, AllocError>
     requires few { length scripts ≤ 64 }
     requires enough { length scripts ≤ vec_len ports.old }
+    requires pool { ForSome (layout_in boot.now) IsLayout }
     requires runnable { All IsRunnable scripts }
     ensures count { IfOk result (λ all. vec_len all ≡ length scripts) }
     ensures ports { IfOk result (λ all.
         ports.old.items ≡ ports_of all.items ++ reverse ports.new.items) }
     ensures seen { IfOk result (λ all. map (seen_by P.made P.faults) all.items
         ≡ first_on P.made P.faults boot.now 0 scripts (ports_of all.items)) }
-    ensures stand { IfOk result (λ all. All (λ c. (memory : MemoryValue)
-        → Stands (seen_by P.made P.faults c) memory
-        → CpuStands P.made P.faults P.room c memory) all.items) }
+    ensures stand { IfOk result (λ all. All (λ c. (base : Ground)
+        → Stands (seen_by P.made P.faults c) base
+        → CpuStands P.made P.faults P.room c base) all.items) }
     ensures room { IfOk result (λ all. vec_len ports.new + vec_len all ≤ vec_capacity ports.new) }
     ensures refused { OnErr result (ports.new.items ≡ ports.old.items) }
 {
@@ -89,7 +94,7 @@ pub(crate) fn finish_all<P: Port>(mut all: Vec<Cpu<P>>, ports: &mut Vec<P>, left
     ensures scripts { left.new.scripts.items
         ≡ map (λ c. (seen_by P.made P.faults c).script) all.items }
     ensures lists { left.new.lists.items
-        ≡ map (λ c. (seen_by P.made P.faults c).entries) all.items }
+        ≡ map (λ c. entries_made (seen_by P.made P.faults c)) all.items }
 {
     while let Some(cpu) = all.pop() {
         let (port, script, entries) = cpu.finish();

@@ -2,7 +2,7 @@
 ghost use Rattle.std.specs.Prelude.{◌≡◌, ◌≤◌, ◌<◌, ◌^◌, [], List, All, IfOk, length};
 ghost use Rattle.event_core.specs.declared.command.Command.{Command as CommandValue};
 ghost use Rattle.event_core.specs.ReadableScript.{IsReadable, bytes_named};
-ghost use Rattle.block_laws.specs.BlockScripts.{IsOfBlocks};
+ghost use Rattle.block_laws.specs.Unconverting.{ConvertsNothing};
 ghost use Rattle.block_laws.specs.Runnable.{IsRunnable};
 ghost use Rattle.guest_runs.specs.Beginning.{Begins};
 
@@ -58,7 +58,7 @@ fn guest_of(
         },
     )?;
     let mut ports = ports_failing(alloc, cpus, failing)?;
-    match boot(alloc, &map, None, 1, cpus, &mut ports[0]) {
+    match boot(alloc, &map, None, 0, 1, cpus, &mut ports[0]) {
         Ok(world) => Ok((world, ports)),
         Err(_) => Err(Fail::from("no world")),
     }
@@ -69,7 +69,7 @@ fn accept(first: u64, count: u64) -> Command
     requires first { first < 512 }
     requires count { count < 512 }
     ensures readable { IsReadable result }
-    ensures of_blocks { IsOfBlocks result }
+    ensures unconverting { ConvertsNothing result }
     ensures unnamed { bytes_named result ≡ 0 }
 {
     Command::Accept {
@@ -81,7 +81,7 @@ fn accept(first: u64, count: u64) -> Command
 /// A script of one command.
 fn one(alloc: Global, command: Command) -> Result<Script, AllocError>
     requires readable { IsReadable command }
-    requires of_blocks { IsOfBlocks command }
+    requires unconverting { ConvertsNothing command }
     requires unnamed { bytes_named command ≡ 0 }
     ensures { IfOk result (λ script. IsRunnable script) }
 {

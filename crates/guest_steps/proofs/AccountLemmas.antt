@@ -7,28 +7,29 @@ use Rattle.event_core.specs.declared.boot.Boot.{Boot}
 use Rattle.event_core.specs.declared.command.Command.{Command}
 use Rattle.event_core.specs.declared.entry.Entry.{Entry}
 use Rattle.event_core.specs.Cut.{cut}
+use Rattle.event_core.specs.Moved.{Moved}
 use Rattle.page_module.specs.Spans.{Taken}
 use Rattle.memory_core.specs.Waiting.{waiting_left}
 use Rattle.memory_core.proofs.StepLemmas.{fewer}
+use Rattle.guest_steps.specs.Ground.{Ground}
 use Rattle.guest_steps.specs.Seen.{Seen, STEPS, left_by, steps_left, steps_waiting}
-use Rattle.guest_steps.specs.Steps.{Makes, memory_after}
+use Rattle.guest_steps.specs.Steps.{MakesIn}
 
 -- The steps that a processor has left.
 
 -- an entry is one more, and at least one step fewer is left
-pub makes-spent : (old new : Seen) (memory : List Entry) (entry : Entry) → Makes old new memory entry
-    → length old.entries + steps_left old + steps_waiting old.boot memory ≤ (length old.script + PAGE_END) * STEPS
-    → length new.entries + steps_left new + steps_waiting new.boot (memory_after memory entry) ≤ (length new.script + PAGE_END) * STEPS
-makes-spent old new memory entry makes spent =
-    let long : length new.entries ≡ length old.entries + 1 = ap (λ (es : List Entry). length es) makes.entries ∙ length-append old.entries (entry ∷ []) in
-    let less = makes.less in
-    let same : (length old.script + PAGE_END) * STEPS ≡ (length new.script + PAGE_END) * STEPS = ap (λ (cs : List Command). (length cs + PAGE_END) * STEPS) (sym makes.same.script) in
-    let waiting : steps_waiting new.boot (memory_after memory entry) ≡ steps_waiting old.boot (memory_after memory entry) = ap (λ (b : Boot). steps_waiting b (memory_after memory entry)) makes.same.boot in
-    counted (length old.entries) (length new.entries) (steps_left old) (steps_left new) (steps_waiting old.boot memory) (steps_waiting old.boot (memory_after memory entry)) (steps_waiting new.boot (memory_after memory entry))
-    ((length old.script + PAGE_END) * STEPS) ((length new.script + PAGE_END) * STEPS) long less waiting same spent
+pub makes-spent : (old new : Seen) (before after : Ground) → MakesIn old new before after
+    → length old.moved + steps_left old + steps_waiting old.boot before.memory.entries ≤ (length old.script + PAGE_END) * STEPS
+    → length new.moved + steps_left new + steps_waiting new.boot after.memory.entries ≤ (length new.script + PAGE_END) * STEPS
+makes-spent old new before after m spent =
+    let long : length new.moved ≡ length old.moved + 1 = ap (λ (ms : List Moved). length ms) m.makes.moved ∙ length-append old.moved (m.m ∷ []) in
+    let less = m.less in
+    let same : (length old.script + PAGE_END) * STEPS ≡ (length new.script + PAGE_END) * STEPS = ap (λ (cs : List Command). (length cs + PAGE_END) * STEPS) (sym m.makes.same.script) in
+    counted (length old.moved) (length new.moved) (steps_left old) (steps_left new) (steps_waiting old.boot before.memory.entries) (steps_waiting new.boot after.memory.entries)
+    ((length old.script + PAGE_END) * STEPS) ((length new.script + PAGE_END) * STEPS) long less same spent
   where
-    counted : (a b m n v w u x y : ℕ) → b ≡ a + 1 → n + w < m + v → u ≡ w → x ≡ y → a + m + v ≤ x → b + n + u ≤ y
-    counted a b m n v w u x y long less waiting same spent = omega (arith, long, less, waiting, same, spent)
+    counted : (a b m n v u x y : ℕ) → b ≡ a + 1 → n + u < m + v → x ≡ y → a + m + v ≤ x → b + n + u ≤ y
+    counted a b m n v u x y long less same spent = omega (arith, long, less, same, spent)
 
 -- fewer blocks that aren't accepted take fewer steps
 pub waiting-fewer : (boot : Boot) (memory after : List Entry) → waiting_left boot after ≤ waiting_left boot memory → steps_waiting boot after ≤ steps_waiting boot memory
@@ -40,8 +41,8 @@ unfolding waiting_left
 waiting-most boot memory = search (arith, count_by-le-length)
 
 -- at first all steps are left
-pub first-spent : (boot : Boot) (memory : List Entry) (commands : ℕ) → length (cut boot) ≤ PAGE_END → 0 + (commands - 0) * STEPS + steps_waiting boot memory ≤ (commands + PAGE_END) * STEPS
-first-spent boot memory commands few =
+pub first-spent : (boot : Boot) (memory : List Entry) (commands looks : ℕ) → length (cut boot) ≤ PAGE_END → 0 + ((commands - 0) * STEPS - looks) + steps_waiting boot memory ≤ (commands + PAGE_END) * STEPS
+first-spent boot memory commands looks few =
     let most = waiting-most boot memory in
     let less = fewer (commands + waiting_left boot memory) (commands + PAGE_END) STEPS (omega (arith, most, few)) in
     let none : (commands - 0) * STEPS ≡ commands * STEPS = ap (λ n. n * STEPS) (let same : commands - 0 ≡ commands = omega arith in same) in

@@ -1,40 +1,40 @@
-use Rattle.std.proofs.Common.{◌≡◌, ◌≢◌, ◌⊎◌, ℕ, ◌<◌, Bool, true, false, not, Option, Some, List, [], ◌∷◌, ◌++◌, refl, sym, ◌∙◌, ap, subst, inl, inr, cond, map, slice_get, get_or}
-use Rattle.std.specs.Prelude.{All, AllPairs, Contains, bytes_eq, find, fold, length, unwrap_or}
+use Rattle.std.proofs.Common.{◌≡◌, ◌≢◌, ℕ, ◌<◌, Bool, true, false, not, Option, Some, List, [], ◌∷◌, ◌++◌, refl, sym, ◌∙◌, ap, subst, inl, inr, cond, slice_get, get_or, append-nil}
+use Rattle.std.specs.Prelude.{All, AllPairs, Contains, bytes_eq, find, length}
 use Rattle.std.proofs.lemmas.Bool.{cases_Bool, eq-eqb}
-use Rattle.std.proofs.lemmas.List.{get_or-map, length-map, map-append}
-use Rattle.std.proofs.lemmas.List.Elements.{All-nil, All-cons, All-head, All-tail, All-weaker, All-filter, All-map, recursion_from_All}
+use Rattle.std.proofs.lemmas.List.{get_or-map, length-map}
+use Rattle.std.proofs.lemmas.List.Elements.{All-cons, All-weaker, All-filter, All-map, recursion_from_All}
 use Rattle.std.proofs.lemmas.List.Kept.{AllPairs-cons, AllPairs-filter}
-use Rattle.std.proofs.lemmas.List.Sums.{fold-append}
 use Rattle.guest_base.specs.declared.memory.Block.{Block}
 use Rattle.event_core.specs.declared.command.Command.{Command}
 use Rattle.event_core.specs.declared.entry.Entry.{Entry}
-use Rattle.event_core.specs.declared.entry.Place.{Place}
 use Rattle.event_core.specs.declared.entry.Place.TheVariants as place
 use Rattle.event_core.specs.declared.event.Event.{Event}
 use Rattle.event_core.specs.declared.event.Event.TheVariants as event
 use Rattle.event_core.specs.Calls.{calls_in}
 use Rattle.event_core.specs.Holdings.{Holding, Own, block_named, same_block}
-use Rattle.event_core.specs.Legal.{place_of, same_place}
+use Rattle.event_core.specs.Legal.{same_place}
 use Rattle.event_core.specs.Moved.{entries_of}
-use Rattle.event_core.specs.Next.{step_of}
-use Rattle.event_core.specs.Own.{nothing, own_of, own_step, present, replied, script_of}
+use Rattle.event_core.specs.Own.{own_of, own_step, replied}
+use Rattle.event_core.proofs.CommandLemmas.{step_told}
 use Rattle.event_core.proofs.RisingLemmas.{pairs-head, pairs-map, pairs-tail, pairs-unmap}
-use Rattle.block_laws.specs.BlockScripts.{IsOfBlocks}
-use Rattle.block_laws.proofs.CommandFacts.{and-then-some, present-is, step_told}
-use Rattle.block_laws.proofs.EventFacts.{AreBlockSteps, IsBlockEvent, step-made}
+use Rattle.block_laws.specs.Unconverting.{ConvertsNothing}
+use Rattle.block_laws.proofs.EventFacts.{IsUnconverting}
 use Rattle.block_laws.proofs.ListFacts.{found-one}
-use Rattle.block_laws.proofs.OwnedFacts.{Change, Same, Gets, Frees, IsQuiet, OwnFits, blocks_in, left, own-event, own-rows, step-change}
-use Rattle.block_laws.proofs.RowFacts.{step-row}
+use Rattle.block_laws.proofs.OwnedFacts.{Change, Same, Gets, Frees, IsQuiet, OwnFits, blocks_in, left, own-rows, quiet-elsewhere, step-change}
+use Rattle.block_laws.proofs.RowFacts.{step-row, unconverting-rows}
 use Rattle.block_laws.proofs.StandFacts.{same-block}
 use Rattle.memory_core.specs.Owners.{is_owner, owned_by}
-use Rattle.memory_core.specs.UnderLock.{unmoved}
 use Rattle.memory_core.proofs.SettledLemmas.{is_owner-push}
 use Rattle.memory_core.proofs.WaitingLemmas.{same-itself}
-use Rattle.guest_steps.specs.Seen.{Seen, own_moved, own_now}
+use Rattle.pool_laws.proofs.LookFacts.{own-push}
+use Rattle.guest_steps.specs.Ground.{Ground, there_in}
+use Rattle.guest_steps.specs.Seen.{Seen, own_now}
 use Rattle.guest_steps.specs.Standing.{OwnsHeld, blocks_had}
-use Rattle.guest_steps.specs.Steps.{IsNext, entries_there, memory_after, memory_by, without_reply}
-use Rattle.guest_steps.proofs.AmongLemmas.{alone, alone-has}
+use Rattle.guest_steps.specs.Steps.{MakesIn, without_reply}
 use Rattle.guest_steps.proofs.BeginningLemmas.{all-got}
+use Rattle.guest_steps.proofs.FollowLemmas.{step-taken}
+use Rattle.guest_steps.proofs.ListLemmas.{all-unmap}
+use Rattle.guest_steps.proofs.StepLemmas.{entries-after}
 
 -- The blocks that a processor has are its own, and no two are one.
 
@@ -47,12 +47,8 @@ held-owned c memory held h (k, within, is) =
     let long : k < length (blocks_had c) = subst (λ n. k < n) (sym (length-map blocks (λ (g : Holding). g.block))) within in
     subst (λ (b : Block). is_owner memory c.number b ≡ true) (get_or-map (λ (g : Holding). g.block) blocks k h h.block within ∙ ap (λ (g : Holding). g.block) is) (held.owned k h.block long)
 
-all-unmap : {X Y : Type 0} (P : Y → Type 0) (f : X → Y) (xs : List X) → All P (map f xs) → All (λ x. P (f x)) xs
-all-unmap P f [] all = All-nil (λ x. P (f x))
-all-unmap P f (x ∷ xs) all = All-cons (λ x. P (f x)) x xs (All-head P (f x) (map f xs) all) (all-unmap P f xs (All-tail P (f x) (map f xs) all))
-
 -- what holds of each item holds of one that is found
-all-found : {X : Type 0} (P : X → Type 0) (test : X → Bool) (xs : List X) (x : X) → All P xs → find test xs ≡ Some x → P x
+pub all-found : {X : Type 0} (P : X → Type 0) (test : X → Bool) (xs : List X) (x : X) → All P xs → find test xs ≡ Some x → P x
 all-found P test xs x all is = (found-one P test xs x (recursion_from_All P xs all) is).0
 
 pub named-owned : (c : Seen) (memory : List Entry) → OwnsHeld c memory → (name : List ℕ) (h : Holding) → block_named (own_now c) name ≡ Some h → is_owner memory c.number h.block ≡ true
@@ -68,13 +64,9 @@ record Holds (memory : List Entry) (cpu : ℕ) (e : Event) (blocks : List Block)
   pub differ : AllPairs (λ (a b : Block). a ≢ b) blocks
 
 quiet-owner : (block : Block) (owned : Bool) (e : Event) → IsQuiet e → owned_by block owned e ≡ owned
-quiet-owner block owned event.Own is = refl
-quiet-owner block owned (event.Claim of units run) is = refl
-quiet-owner block owned (event.Report run calls stopped next) is = refl
-quiet-owner block owned event.NoBlock is = refl
-quiet-owner block owned (event.Asked found) is = refl
-quiet-owner block owned (event.Touched page found) is = refl
-quiet-owner block owned _ is = absurd is
+quiet-owner block owned (event.Got got) is = absurd is
+quiet-owner block owned (event.Freed freed) is = absurd is
+quiet-owner block owned _ is = refl
 
 gets-more : (got block : Block) (owned : Bool) → owned ≡ true → owned_by block owned (event.Got got) ≡ true
 gets-more got block owned is = either (same_block got block) where
@@ -148,82 +140,44 @@ holds-changed there memory cpu before after e (Frees held name h is begun now fo
 
 -- ---- the next entry of a processor
 
--- its command, and the command's step
-record StepTaken (c : Seen) (memory : List Entry) (entry : Entry) : Type 0 where
-  pub command : Command
-  pub its : slice_get c.script entry.cmd ≡ Some command
-  pub of_blocks : IsOfBlocks command
-  pub step : step_of c.boot c.number (own_now c) (map unmoved (entries_there entry.place memory)) command (calls_in entry.event) ≡ Some (step_told entry)
-  pub place : entry.place ≡ place_of c.boot entry.event
-
-step-taken : (c : Seen) (memory : List Entry) (entry : Entry) → All IsOfBlocks c.script → IsNext c memory entry → StepTaken c memory entry
-step-taken c memory entry of_blocks next =
-    let scripts = alone c.number c.script in
-    let has = alone-has c.number c.script in
-    let local = next.follows scripts has in
-    let own = own_moved c in
-    let there = map unmoved (entries_there entry.place memory) in
-    let by = λ (n : ℕ) (x : Command). step_of c.boot n (own_of (script_of scripts n) own) there x (calls_in entry.event) in
-    let found = and-then-some (by entry.cpu.0) (present scripts entry.cpu.0 own) (step_told entry) local.over.step in
-    let mine = next.mine in
-    let script : script_of scripts c.number ≡ c.script = ap (λ (o : Option (List Command)). unwrap_or o []) has in
-    let at : slice_get c.script (replied own) ≡ Some found.0 =
-    ap (λ (s : List Command). slice_get s (replied own)) (sym script) ∙ present-is scripts c.number own ∙ ap (λ n. present scripts n own) (sym mine) ∙ found.1
-    in
-    record {
-      command = found.0;
-      its = ap (slice_get c.script) local.over.number ∙ at;
-      of_blocks = all-got IsOfBlocks c.script (replied own) found.0 of_blocks at;
-      step = ap (λ (s : List Command). step_of c.boot c.number (own_of s own) there found.0 (calls_in entry.event)) (sym script) ∙ ap (λ n. by n found.0) (sym mine) ∙ found.2;
-      place = local.over.place;
-    }
-
-own-after : (script : List Command) (entries : List Entry) (entry : Entry) → own_of script (map unmoved (entries ++ entry ∷ [])) ≡ own_step script (own_of script (map unmoved entries)) (unmoved entry)
-unfolding own_of
-own-after script entries entry =
-    ap (fold (own_step script) nothing) (map-append unmoved entries (entry ∷ [])) ∙ fold-append (own_step script) nothing (map unmoved entries) (unmoved entry ∷ [])
-
--- an event that isn't the memory's is the processor's own
-is-own : (c : Seen) (entry : Entry) → IsBlockEvent entry.event → entry.place ≡ place_of c.boot entry.event → entry.place ≡ place.Own → entry.event ≡ event.Own
-is-own c entry is at own = own-event c.boot entry.event is (ap (same_place place.Memory) (sym at ∙ own))
-
 -- who owns a block after the entry
-owner-after : (c : Seen) (memory : List Entry) (entry : Entry) (block : Block) → entry.cpu.0 ≡ c.number → (entry.place ≡ place.Memory) ⊎ ((entry.place ≡ place.Own) × (entry.event ≡ event.Own))
-    → owned_by block (is_owner memory c.number block) entry.event ≡ is_owner (memory_after memory entry) c.number block
-owner-after c memory entry block mine (inl at) =
-    sym (ap (λ (p : Place). is_owner (memory_by p memory entry) c.number block) at
-    ∙ is_owner-push memory (without_reply entry) c.number block
-    ∙ ap (λ b. cond b (owned_by block (is_owner memory c.number block) entry.event) (is_owner memory c.number block)) (eq-eqb entry.cpu.0 c.number mine))
-owner-after c memory entry block mine (inr own) =
-    ap (owned_by block (is_owner memory c.number block)) own.1 ∙ sym (ap (λ (p : Place). is_owner (memory_by p memory entry) c.number block) own.0)
+owner-by : (b : Bool) (before : List Entry) (e : Entry) (cpu : ℕ) (block : Block) → e.cpu.0 ≡ cpu → (b ≡ false → IsQuiet e.event)
+    → owned_by block (is_owner before cpu block) e.event ≡ is_owner (before ++ cond b (without_reply e ∷ []) []) cpu block
+owner-by true before e cpu block mine elsewhere =
+    sym (is_owner-push before (without_reply e) cpu block
+    ∙ ap (λ b. cond b (owned_by block (is_owner before cpu block) e.event) (is_owner before cpu block)) (eq-eqb e.cpu.0 cpu mine))
+owner-by false before e cpu block mine elsewhere =
+    quiet-owner block (is_owner before cpu block) e.event (elsewhere refl) ∙ sym (ap (λ es. is_owner es cpu block) (append-nil before))
 
 -- a step leaves it so, where a block that was got had no owner
-pub held-next : (old new : Seen) (memory : List Entry) (entry : Entry) → All IsOfBlocks old.script → OwnsHeld old memory → IsNext old memory entry
-    → new.number ≡ old.number → new.script ≡ old.script → new.entries ≡ old.entries ++ entry ∷ []
-    → ((block : Block) → entry.event ≡ event.Got block → is_owner memory old.number block ≡ false) → OwnsHeld new (memory_after memory entry)
-held-next old new memory entry of_blocks held next number script entries fresh =
-    let t = step-taken old memory entry of_blocks next in
+pub held-next : (old new : Seen) (before after : Ground) (m : MakesIn old new before after) → All ConvertsNothing old.script → OwnsHeld old before.memory.entries
+    → ((block : Block) → m.m.entry.event ≡ event.Got block → is_owner before.memory.entries old.number block ≡ false) → OwnsHeld new after.memory.entries
+held-next old new before after m unconverting held fresh =
+    let e = m.m.entry in
+    let there = there_in before e.place in
+    let memory = before.memory.entries in
     let own = own_now old in
-    let there = map unmoved (entries_there entry.place memory) in
-    let is = (subst AreBlockSteps t.step (step-made old.boot old.number own there t.command (calls_in entry.event) t.of_blocks)).each.event in
-    let fits = step-row (OwnFits old.boot (entries_of there) own t.command) old.boot old.number own there t.command (calls_in entry.event) (step_told entry) t.of_blocks
+    let t = step-taken old old.moved there m.m m.makes.next.mine m.makes.next.follows in
+    let converts = all-got ConvertsNothing old.script (replied old.moved) t.command unconverting t.its in
+    let is = step-row IsUnconverting old.boot old.number own there t.command (calls_in e.event) (step_told e) converts (unconverting-rows old.boot (entries_of there) old.number own t.command) t.step in
+    let fits = step-row (OwnFits old.boot (entries_of there) own t.command) old.boot old.number own there t.command (calls_in e.event) (step_told e) converts
     (own-rows old.boot (entries_of there) old.number own t.command) t.step
     in
-    let change = step-change old.boot (entries_of there) own old.script t.command (unmoved entry) t.its t.of_blocks is fits in
-    let holds = holds-changed (entries_of there) memory old.number (blocks_had old) (blocks_in (own_step old.script own (unmoved entry)).blocks) entry.event change held.owned held.differ fresh in
-    let now : blocks_in (own_step old.script own (unmoved entry)).blocks ≡ blocks_had new =
+    let change = step-change old.boot (entries_of there) own old.script t.command m.m (ap (slice_get old.script) t.number ∙ t.its) converts is fits in
+    let holds = holds-changed (entries_of there) memory old.number (blocks_had old) (blocks_in (own_step old.script own m.m).blocks) e.event change held.owned held.differ fresh in
+    let now : blocks_in (own_step old.script own m.m).blocks ≡ blocks_had new =
     ap (λ (o : Own). blocks_in o.blocks)
-    (sym (ap (λ (s : List Command). own_of s (own_moved new)) script ∙ ap (λ (es : List Entry). own_of old.script (map unmoved es)) entries ∙ own-after old.script old.entries entry))
+    (sym (ap (λ (s : List Command). own_of s new.moved) m.makes.same.script ∙ ap (own_of old.script) m.makes.moved ∙ own-push old.script old.moved m.m))
     in
-    let at : (entry.place ≡ place.Memory) ⊎ ((entry.place ≡ place.Own) × (entry.event ≡ event.Own)) = elim next.place [
-      | inl there ↦ inl there
-      | inr own ↦ inr (own, is-own old entry is t.place own)
-    ]
+    let here = same_place place.Memory e.place in
+    let longer = entries-after memory after.memory.entries m.m here (m.there place.Memory) in
+    let quiet : here ≡ false → IsQuiet e.event = λ elsewhere. quiet-elsewhere old.boot e.event is (ap (same_place place.Memory) (sym t.place) ∙ elsewhere) in
+    let owner : (b : Block) → owned_by b (is_owner memory old.number b) e.event ≡ is_owner after.memory.entries new.number b =
+    λ b. owner-by here memory e old.number b m.makes.next.mine quiet ∙ ap (λ es. is_owner es old.number b) (sym longer) ∙ ap (λ n. is_owner after.memory.entries n b) (sym m.makes.same.number)
     in
-    let after = memory_after memory entry in
     record {
-      owned = All-weaker (λ b. owned_by b (is_owner memory old.number b) entry.event ≡ true) (λ b. is_owner after new.number b ≡ true)
-          (λ b has. ap (λ n. is_owner after n b) number ∙ sym (owner-after old memory entry b next.mine at) ∙ has) (blocks_had new)
-          (subst (All (λ b. owned_by b (is_owner memory old.number b) entry.event ≡ true)) now holds.owned);
+      owned = All-weaker (λ b. owned_by b (is_owner memory old.number b) e.event ≡ true) (λ b. is_owner after.memory.entries new.number b ≡ true)
+          (λ b has. sym (owner b) ∙ has) (blocks_had new)
+          (subst (All (λ b. owned_by b (is_owner memory old.number b) e.event ≡ true)) now holds.owned);
       differ = subst (AllPairs (λ (a b : Block). a ≢ b)) now holds.differ;
     }

@@ -11,16 +11,18 @@ use Rattle.event_core.specs.declared.entry.Place.{Place}
 use Rattle.event_core.specs.declared.entry.Place.TheVariants.{Memory, Area, Own}
 use Rattle.event_core.specs.Legal.{Legal, LegalAfter, at_place, bare, greatest_stamp, same_place, with_bytes}
 use Rattle.event_core.specs.Moved.{Moved, made_by}
-use Rattle.event_core.specs.Turns.{entries_by}
 use Rattle.event_core.proofs.RisingLemmas.{filter-at}
+use Rattle.io_areas.specs.Value.{AreaValue}
 use Rattle.memory_core.specs.UnderLock.{unmoved}
-use Rattle.memory_core.specs.Value.{MemoryValue}
 use Rattle.memory_core.proofs.StepLemmas.{fewer}
-use Rattle.guest_steps.specs.Seen.{Seen, STEPS, own_moved}
-use Rattle.guest_steps.specs.Standing.{Together, lists_of, scripts_of}
-use Rattle.guest_steps.specs.Steps.{stamp_before}
+use Rattle.guest_steps.specs.Ground.{Ground, HasArea, there_in}
+use Rattle.guest_steps.specs.Seen.{Seen, STEPS, entries_made}
+use Rattle.guest_steps.specs.Standing.{Together, lists_of, moved_at, scripts_of}
+use Rattle.guest_steps.specs.Steps.{stamp_before, stamp_in}
+use Rattle.guest_steps.proofs.GroundLemmas.{there-of}
 use Rattle.guest_steps.proofs.HistoryLemmas.{all-entries, entries-legal, list-owner}
-use Rattle.guest_steps.proofs.TogetherLemmas.{list-some, none-past}
+use Rattle.guest_steps.proofs.ListLemmas.{all-unmap}
+use Rattle.guest_steps.proofs.TogetherLemmas.{agree-there, list-some, moved-none, moved-some}
 
 -- The stamps of processors that stand together are at most as many as their entries.
 
@@ -74,88 +76,105 @@ legal-stamps boot scripts entries legal =
 
 -- ---- all processors
 
-unmoved-most : (most : ℕ) (entries : List Entry) → All (λ (e : Entry). e.stamp ≤ most) entries → All (AtMost most) (map unmoved entries)
-unmoved-most most entries all = All-map (AtMost most) unmoved entries all
-
-own-most : (boot : Boot) (all : List Seen) (memory : MemoryValue) (t : Together boot all memory) (cpu : ℕ) (c : Seen) → slice_get all cpu ≡ Some c
-    → All (AtMost (length (all-entries boot all memory t).entries)) (own_moved c)
-own-most boot all memory t cpu c at =
-    let one = all-entries boot all memory t in
+own-most : (boot : Boot) (all : List Seen) (base : Ground) (t : Together boot all base) (cpu : ℕ) (c : Seen) → slice_get all cpu ≡ Some c
+    → All (AtMost (length (all-entries boot all base t).entries)) c.moved
+own-most boot all base t cpu c at =
+    let one = all-entries boot all base t in
     let P : Entry → Type 0 = λ e. e.stamp ≤ length one.entries in
-    unmoved-most (length one.entries) c.entries
-    (subst (All P) (one.same cpu ∙ list-some all cpu c at) (All-filter (λ (e : Entry). e.cpu.0 == cpu) P one.entries (legal-stamps boot (scripts_of all) one.entries (entries-legal boot all memory t))))
+    all-unmap P (λ (m : Moved). m.entry) c.moved
+    (subst (All P) (one.same cpu ∙ list-some all cpu c at) (All-filter (λ (e : Entry). e.cpu.0 == cpu) P one.entries (legal-stamps boot (scripts_of all) one.entries (entries-legal boot all base t))))
 
 -- what holds of each processor's entries holds of all
-each-by : (P : Entry → Type 0) (entries : List Entry) → ((cpu : ℕ) → All P (entries_by cpu entries)) → All P entries
+each-by : (P : Moved → Type 0) (moved : List Moved) → ((cpu : ℕ) → All P (made_by cpu moved)) → All P moved
 each-by P [] each = All-nil P
-each-by P (e ∷ es) each =
-    All-cons P e es
-    (All-head P e (entries_by e.cpu.0 es) (subst (All P) (filter-at (λ (x : Entry). x.cpu.0 == e.cpu.0) e es true (eq-eqb e.cpu.0 e.cpu.0 refl)) (each e.cpu.0)))
-    (each-by P es (λ cpu. behind cpu (e.cpu.0 == cpu) refl))
+each-by P (m ∷ ms) each =
+    All-cons P m ms
+    (All-head P m (made_by m.entry.cpu.0 ms) (subst (All P) (filter-at (λ (x : Moved). x.entry.cpu.0 == m.entry.cpu.0) m ms true (eq-eqb m.entry.cpu.0 m.entry.cpu.0 refl)) (each m.entry.cpu.0)))
+    (each-by P ms (λ cpu. behind cpu (m.entry.cpu.0 == cpu) refl))
   where
-    behind : (cpu : ℕ) (b : Bool) → (e.cpu.0 == cpu) ≡ b → All P (entries_by cpu es)
-    behind cpu true is = All-tail P e (entries_by cpu es) (subst (All P) (filter-at (λ (x : Entry). x.cpu.0 == cpu) e es true is) (each cpu))
-    behind cpu false is = subst (All P) (filter-at (λ (x : Entry). x.cpu.0 == cpu) e es false is) (each cpu)
+    behind : (cpu : ℕ) (b : Bool) → (m.entry.cpu.0 == cpu) ≡ b → All P (made_by cpu ms)
+    behind cpu true is = All-tail P m (made_by cpu ms) (subst (All P) (filter-at (λ (x : Moved). x.entry.cpu.0 == cpu) m ms true is) (each cpu))
+    behind cpu false is = subst (All P) (filter-at (λ (x : Moved). x.entry.cpu.0 == cpu) m ms false is) (each cpu)
 
-memory-by : (boot : Boot) (all : List Seen) (memory : MemoryValue) (t : Together boot all memory) (cpu : ℕ) (found : Option Seen) → slice_get all cpu ≡ found
-    → All (λ (e : Entry). e.stamp ≤ length (all-entries boot all memory t).entries) (entries_by cpu memory.entries)
-memory-by boot all memory t cpu None at =
-    let P : Entry → Type 0 = λ e. e.stamp ≤ length (all-entries boot all memory t).entries in
-    subst (All P) (sym (none-past boot all memory cpu t at)) (All-nil P)
-memory-by boot all memory t cpu (Some c) at =
-    let most = length (all-entries boot all memory t).entries in
-    let P : Entry → Type 0 = λ e. e.stamp ≤ most in
-    let was = t.each cpu c at in
-    let stands = was.2 in
-    subst (λ n. All P (entries_by n memory.entries)) was.0
-    (subst (All P) (sym stands.mine)
-    (All-map P (λ (m : Moved). m.entry) (at_place Memory (own_moved c)) (there-most most (λ (m : Moved). same_place Memory m.entry.place) (own_moved c) (own-most boot all memory t cpu c at))))
+at-most : (most : ℕ) (place : Place) (moved : List Moved) → All (AtMost most) moved → All (AtMost most) (at_place place moved)
+at-most most Memory moved all = there-most most (λ (m : Moved). same_place Memory m.entry.place) moved all
+at-most most (Area area) moved all = there-most most (λ (m : Moved). same_place (Area area) m.entry.place) moved all
+at-most most Own moved all = All-nil (AtMost most)
+
+there-by : (boot : Boot) (all : List Seen) (base : Ground) (t : Together boot all base) (place : Place) (cpu : ℕ) (found : Option Seen) → slice_get all cpu ≡ found
+    → All (AtMost (length (all-entries boot all base t).entries)) (made_by cpu (there_in base place))
+there-by boot all base t place cpu None at =
+    let most = length (all-entries boot all base t).entries in
+    subst (All (AtMost most)) (sym (agree-there boot all base place cpu t None at)) (at-most most place (moved_at all cpu) (subst (All (AtMost most)) (sym (moved-none all cpu at)) (All-nil (AtMost most))))
+there-by boot all base t place cpu (Some c) at =
+    let most = length (all-entries boot all base t).entries in
+    subst (All (AtMost most)) (sym (agree-there boot all base place cpu t (Some c) at)) (at-most most place (moved_at all cpu) (subst (All (AtMost most)) (sym (moved-some all cpu c at)) (own-most boot all base t cpu c at)))
+
+-- all entries of a place
+there-all : (boot : Boot) (all : List Seen) (base : Ground) (t : Together boot all base) (place : Place) → All (AtMost (length (all-entries boot all base t).entries)) (there_in base place)
+there-all boot all base t place =
+    each-by (AtMost (length (all-entries boot all base t).entries)) (there_in base place) (λ cpu. there-by boot all base t place cpu (slice_get all cpu) refl)
 
 -- no more entries than the steps of all scripts
-list-few : (boot : Boot) (all : List Seen) (memory : MemoryValue) → Together boot all memory → (cpu : ℕ) (list : List Entry) → slice_get (lists_of all) cpu ≡ Some list → length list ≤ (MAX_COMMANDS + PAGE_END) * STEPS
-list-few boot all memory t cpu list at =
+list-few : (boot : Boot) (all : List Seen) (base : Ground) → Together boot all base → (cpu : ℕ) (list : List Entry) → slice_get (lists_of all) cpu ≡ Some list → length list ≤ (MAX_COMMANDS + PAGE_END) * STEPS
+list-few boot all base t cpu list at =
     let o = list-owner all cpu list at in
     let c = o.0 in
     let stands = (t.each cpu c o.1).2 in
     let spent = stands.spent in
     let few = stands.readable.few in
     let most = fewer (length c.script + PAGE_END) (MAX_COMMANDS + PAGE_END) STEPS (omega (arith, few)) in
-    let same : length c.entries ≡ length list = ap (λ (es : List Entry). length es) o.2 in
-    omega (arith, spent, most, same)
+    let same : length (entries_made c) ≡ length list = ap (λ (es : List Entry). length es) o.2 in
+    let long : length (entries_made c) ≡ length c.moved = length-map c.moved (λ (m : Moved). m.entry) in
+    omega (arith, spent, most, same, long)
 
-pub entries-few : (boot : Boot) (all : List Seen) (memory : MemoryValue) (t : Together boot all memory) → boot.cpus ≤ MAX_CPUS → length (all-entries boot all memory t).entries < 2 ^ 64
-entries-few boot all memory t cpus =
-    let one = all-entries boot all memory t in
-    let long = one.long ((MAX_COMMANDS + PAGE_END) * STEPS) (list-few boot all memory t) in
-    let count : length (lists_of all) ≡ boot.cpus = length-map all (λ (c : Seen). c.entries) ∙ t.count in
+pub entries-few : (boot : Boot) (all : List Seen) (base : Ground) (t : Together boot all base) → boot.cpus ≤ MAX_CPUS → length (all-entries boot all base t).entries < 2 ^ 64
+entries-few boot all base t cpus =
+    let one = all-entries boot all base t in
+    let long = one.long ((MAX_COMMANDS + PAGE_END) * STEPS) (list-few boot all base t) in
+    let count : length (lists_of all) ≡ boot.cpus = length-map all (λ (c : Seen). entries_made c) ∙ t.count in
     let most = fewer (length (lists_of all)) MAX_CPUS ((MAX_COMMANDS + PAGE_END) * STEPS) (omega (arith, count, cpus)) in
     omega (arith, long, most)
 
-own-stamp-low : (boot : Boot) (all : List Seen) (memory : MemoryValue) (t : Together boot all memory) (cpu : ℕ) (c : Seen) → slice_get all cpu ≡ Some c
-    → greatest_stamp (own_moved c) ≤ length (all-entries boot all memory t).entries
-own-stamp-low boot all memory t cpu c at =
-    greatest-most (length (all-entries boot all memory t).entries) 0 (own_moved c) (omega arith) (own-most boot all memory t cpu c at)
+own-stamp-low : (boot : Boot) (all : List Seen) (base : Ground) (t : Together boot all base) (cpu : ℕ) (c : Seen) → slice_get all cpu ≡ Some c
+    → greatest_stamp c.moved ≤ length (all-entries boot all base t).entries
+own-stamp-low boot all base t cpu c at =
+    greatest-most (length (all-entries boot all base t).entries) 0 c.moved (omega arith) (own-most boot all base t cpu c at)
 
-few-here : (boot : Boot) (all : List Seen) (memory : MemoryValue) (t : Together boot all memory) (cpu : ℕ) (c : Seen) → slice_get all cpu ≡ Some c → length (all-entries boot all memory t).entries < 2 ^ 64
-few-here boot all memory t cpu c at =
+few-here : (boot : Boot) (all : List Seen) (base : Ground) (t : Together boot all base) (cpu : ℕ) (c : Seen) → slice_get all cpu ≡ Some c → length (all-entries boot all base t).entries < 2 ^ 64
+few-here boot all base t cpu c at =
     let was = t.each cpu c at in
     let booted = was.2.booted in
     let low = booted.cpus in
     let same : c.boot.cpus ≡ boot.cpus = ap (λ (b : Boot). b.cpus) was.1 in
-    entries-few boot all memory t (omega (arith, low, same))
+    entries-few boot all base t (omega (arith, low, same))
 
 -- the stamps of one processor's entries
-pub own-stamp-small : (boot : Boot) (all : List Seen) (memory : MemoryValue) (cpu : ℕ) (c : Seen) → Together boot all memory → slice_get all cpu ≡ Some c → greatest_stamp (own_moved c) < 2 ^ 64
-own-stamp-small boot all memory cpu c t at =
-    let low = own-stamp-low boot all memory t cpu c at in
-    let few = few-here boot all memory t cpu c at in
+pub own-stamp-small : (boot : Boot) (all : List Seen) (base : Ground) (cpu : ℕ) (c : Seen) → Together boot all base → slice_get all cpu ≡ Some c → greatest_stamp c.moved < 2 ^ 64
+own-stamp-small boot all base cpu c t at =
+    let low = own-stamp-low boot all base t cpu c at in
+    let few = few-here boot all base t cpu c at in
     omega (arith, low, few)
 
 -- and those before a step over the memory
-pub stamp-before-small : (boot : Boot) (all : List Seen) (memory : MemoryValue) (cpu : ℕ) (c : Seen) → Together boot all memory → slice_get all cpu ≡ Some c → stamp_before c memory < 2 ^ 64
-stamp-before-small boot all memory cpu c t at =
-    let low = own-stamp-low boot all memory t cpu c at in
-    let few = few-here boot all memory t cpu c at in
-    let P : Entry → Type 0 = λ e. e.stamp ≤ length (all-entries boot all memory t).entries in
-    let last = last-most (length (all-entries boot all memory t).entries) 0 memory.entries (omega arith) (each-by P memory.entries (λ n. memory-by boot all memory t n (slice_get all n) refl)) in
+pub stamp-before-small : (boot : Boot) (all : List Seen) (base : Ground) (cpu : ℕ) (c : Seen) → Together boot all base → slice_get all cpu ≡ Some c → stamp_before c base.memory < 2 ^ 64
+stamp-before-small boot all base cpu c t at =
+    let most = length (all-entries boot all base t).entries in
+    let low = own-stamp-low boot all base t cpu c at in
+    let few = few-here boot all base t cpu c at in
+    let last = last-most most 0 base.memory.entries (omega arith) (all-unmap (AtMost most) unmoved base.memory.entries (there-all boot all base t Memory)) in
     omega (arith, low, few, last)
+
+-- or in an area
+pub stamp-in-small : (boot : Boot) (all : List Seen) (base : Ground) (cpu : ℕ) (c : Seen) (area : AreaValue) → Together boot all base → slice_get all cpu ≡ Some c → HasArea base area → stamp_in c area < 2 ^ 64
+stamp-in-small boot all base cpu c area t at has =
+    let most = length (all-entries boot all base t).entries in
+    let low = own-stamp-low boot all base t cpu c at in
+    let few = few-here boot all base t cpu c at in
+    let there = subst (All (AtMost most)) (there-of base area.number area has) (there-all boot all base t (Area area.number)) in
+    let last = greatest-most most 0 area.moved (omega arith) there in
+    omega (arith, low, few, last)
+
+pub stamps-small : (boot : Boot) (all : List Seen) (base : Ground) (cpu : ℕ) (c : Seen) → Together boot all base → slice_get all cpu ≡ Some c
+    → (stamp_before c base.memory < 2 ^ 64) × ((area : AreaValue) → HasArea base area → stamp_in c area < 2 ^ 64)
+stamps-small boot all base cpu c t at = (stamp-before-small boot all base cpu c t at, λ area has. stamp-in-small boot all base cpu c area t at has)

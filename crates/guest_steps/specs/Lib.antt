@@ -1,3 +1,4 @@
+pub mod Ground
 pub mod Plain
 pub mod Replies
 pub mod Running

@@ -1,8 +1,10 @@
 use Rattle.std.specs.Prelude.{ℕ, List, [], ◌∷◌, None, ◌≡◌, All, map, slice_get, unwrap_or}
 use Rattle.event_core.specs.declared.boot.Boot.{Boot}
 use Rattle.event_core.specs.declared.entry.Entry.{Entry}
+use Rattle.event_core.specs.declared.entry.Place.{Place}
 use Rattle.event_core.specs.Turns.{Turned, entries_by}
-use Rattle.memory_core.specs.Value.{MemoryValue, handed_to}
+use Rattle.memory_core.specs.Value.{handed_to}
+use Rattle.guest_steps.specs.Ground.{Ground, there_in}
 use Rattle.guest_steps.specs.declared.processor.Need.TheVariants.{Finished}
 use Rattle.guest_steps.specs.Seen.{Seen, first_seen, need_of}
 use Rattle.guest_steps.specs.Standing.{Together, lists_of, scripts_of}
@@ -14,10 +16,10 @@ abbrev pub IsFresh : Seen → Type 0
 IsFresh c = c ≡ first_seen c.boot c.number c.script c.made_before c.faults_before
 
 -- no entry was made yet, and nothing is out
-pub record AtFirst (all : List Seen) (memory : MemoryValue) : Type 0 where
+pub record AtFirst (all : List Seen) (base : Ground) : Type 0 where
   pub fresh : All IsFresh all
-  pub entries : memory.entries ≡ []
-  pub out : (cpu : ℕ) → handed_to memory cpu ≡ None
+  pub entries : (place : Place) → there_in base place ≡ []
+  pub out : (cpu : ℕ) → handed_to base.memory cpu ≡ None
 
 -- every processor is finished
 abbrev pub AllFinished : List Seen → Type 0
@@ -46,11 +48,11 @@ EachLater seen NeverFails (old ∷ olds) (new ∷ news) =
 EachLater seen NeverFails [] (new ∷ news) = ⊥
 EachLater seen NeverFails (old ∷ olds) [] = ⊥
 
--- all processors of a boot stand before its memory, also by what each keeps
-pub record AllStand {T : Type 0} (seen : T → Seen) (stands : T → MemoryValue → Type 0)
-    (boot : Boot) (all : List T) (memory : MemoryValue) : Type 0 where
-  pub together : Together boot (map seen all) memory
-  pub each : All (λ c. stands c memory) all
+-- all processors of a boot stand over its memory and areas, also by what each keeps
+pub record AllStand {T : Type 0} (seen : T → Seen) (stands : T → Ground → Type 0)
+    (boot : Boot) (all : List T) (base : Ground) : Type 0 where
+  pub together : Together boot (map seen all) base
+  pub each : All (λ c. stands c base) all
 
 -- entries are those of the processors, each of which made its list
 abbrev pub AreOf : List Seen → List Entry → Type 0

@@ -1,12 +1,13 @@
-ghost use Rattle.std.specs.Prelude.{◌≡◌, ◌≤◌, ◌^◌, ℕ, None, OnOk, OnErr};
+ghost use Rattle.std.specs.Prelude.{◌≡◌, ◌≤◌, ◌^◌, ℕ, List, None, OnOk, OnErr};
 ghost use Rattle.event_core.specs.Legal.{greatest_stamp};
-ghost use Rattle.memory_core.specs.Away.{FoundAgain};
-ghost use Rattle.memory_core.specs.Value.{MemoryValue};
-ghost use Rattle.guest_steps.specs.Seen.{Seen, need_of, own_moved};
+ghost use Rattle.io_areas.specs.Value.{AreaValue};
+ghost use Rattle.guest_steps.specs.Ground.{FoundAgain, Ground, HasArea, ground_of, with_area};
+ghost use Rattle.guest_steps.specs.Seen.{Seen, need_of};
 ghost use Rattle.guest_steps.specs.Standing.{Stands};
-ghost use Rattle.guest_steps.specs.Steps.{stamp_before, IsBlocked, IsWorked, MakesIn, MakesOwn, RoomAlone, Works};
+ghost use Rattle.guest_steps.specs.Steps.{AreaRoomAlone, IsBlocked, IsWorked, MakesInArea, MakesInMemory, MakesOwn, RoomAlone, Works, stamp_before, stamp_in};
 
 use event_core::NoRoom;
+use io_areas::Area;
 use memory_core::Memory;
 use std::alloc::Global;
 
@@ -15,6 +16,8 @@ use std::alloc::Global;
 pub enum Need {
     /// The memory, under its lock.
     Memory,
+    /// The area of the pool with this number, under its lock.
+    Area(u32),
     /// Nothing beside the processor itself.
     Own,
     /// There is no next step: every command has its reply.
@@ -30,12 +33,12 @@ pub enum Stepped {
     Blocked,
 }
 
-/// A processor that runs its script step by step. `seen` is what contracts see of it, `stands` how it stands before the
-/// memory, and `never_fails` that its port never fails.
+/// A processor that runs its script step by step. `seen` is what contracts see of it, `stands` how it stands over the memory
+/// and the areas of the pool, and `never_fails` that its port never fails.
 pub trait Processor: Send {
     ghost seen: { Self → Seen };
 
-    ghost stands: { Self → MemoryValue → Type 0 };
+    ghost stands: { Self → Ground → Type 0 };
 
     ghost never_fails: { Self → Type 0 };
 
@@ -46,9 +49,9 @@ pub trait Processor: Send {
     /// Does the calls of the secure module for the pages that are out, if any. It needs no lock: the pages are this
     /// processor's alone until it reports them.
     fn work(&mut self)
-        requires stands { (memory : MemoryValue) × stands self.old memory }
+        requires stands { (base : Ground) × stands self.old base }
         ensures works { Works (seen self.old) (seen self.new) }
-        ensures stands { (memory : MemoryValue) → stands self.old memory → stands self.new memory }
+        ensures stands { (base : Ground) → stands self.old base → stands self.new base }
         ensures never_fails_kept { never_fails self.old → never_fails self.new };
 
     /// Makes the next entry over the memory, or is blocked: exactly where there is no next event, as another processor's open
@@ -58,10 +61,11 @@ pub trait Processor: Send {
     fn step_memory(&mut self, alloc: Global, memory: &mut Memory) -> Result<Stepped, NoRoom>
         requires need { need_of (seen self.old) ≡ Need.Memory }
         requires worked { IsWorked (seen self.old) }
-        requires stands { stands self.old memory.old }
-        ensures stands { stands self.new memory.new }
+        requires stands { (areas : List AreaValue) × stands self.old (ground_of memory.old areas) }
+        ensures stands { (areas : List AreaValue) → stands self.old (ground_of memory.old areas)
+            → stands self.new (ground_of memory.new areas) }
         ensures event { result ≡ Ok Stepped.Event
-            → MakesIn (seen self.old) (seen self.new) memory.old memory.new }
+            → MakesInMemory (seen self.old) (seen self.new) memory.old memory.new }
         ensures blocked { result ≡ Ok Stepped.Blocked → (seen self.new ≡ seen self.old)
             × RoomAlone memory.old memory.new × IsBlocked (seen self.old) memory.old.entries }
         ensures refused { OnErr result ((seen self.new ≡ seen self.old)
@@ -73,23 +77,41 @@ pub trait Processor: Send {
             → result ≡ Err (NoRoom.Worn (stamp_before (seen self.old) memory.old)) }
         ensures never_fails_kept { never_fails self.old → never_fails self.new };
 
-    /// Makes the next entry by itself: a command that is refused, or one about the bytes of the processor's own blocks, ends
-    /// without the memory. After an error nothing has changed but room. `NoRoom::Worn` with the stamp comes exactly where the
-    /// processor's greatest stamp is 2^64 or more.
+    /// Makes the next entry in the area that it needs: a look for slots, or an access to bytes of the pool. It is never blocked
+    /// there. After an error nothing has changed but room. `NoRoom::Worn` with the stamp comes exactly where the greatest stamp
+    /// before the step is 2^64 or more.
+    fn step_area(&mut self, alloc: Global, area: &mut Area) -> Result<(), NoRoom>
+        requires need { need_of (seen self.old) ≡ Need.Area area.old.number }
+        requires stands { (base : Ground) × HasArea base area.old × stands self.old base }
+        ensures stands { (base : Ground) → HasArea base area.old → stands self.old base
+            → stands self.new (with_area base area.new) }
+        ensures event { OnOk result
+            (MakesInArea (seen self.old) (seen self.new) area.old area.new) }
+        ensures refused { OnErr result ((seen self.new ≡ seen self.old)
+            × AreaRoomAlone area.old area.new) }
+        ensures worn { (stamp : ℕ) → result ≡ Err (NoRoom.Worn stamp)
+            → (2 ^ 64 ≤ stamp) × (stamp ≡ stamp_in (seen self.old) area.old) }
+        ensures worn_first { 2 ^ 64 ≤ stamp_in (seen self.old) area.old
+            → result ≡ Err (NoRoom.Worn (stamp_in (seen self.old) area.old)) }
+        ensures never_fails_kept { never_fails self.old → never_fails self.new };
+
+    /// Makes the next entry by itself: a command that is refused, one about the bytes of the processor's own blocks, or a copy
+    /// that its mapping doesn't ask for. It ends without any lock. After an error nothing has changed but room. `NoRoom::Worn`
+    /// with the stamp comes exactly where the processor's greatest stamp is 2^64 or more.
     fn step_own(&mut self, alloc: Global) -> Result<(), NoRoom>
         requires need { need_of (seen self.old) ≡ Need.Own }
-        requires stands { (memory : MemoryValue) × stands self.old memory }
-        ensures stands { (memory : MemoryValue) → stands self.old memory → stands self.new memory }
+        requires stands { (base : Ground) × stands self.old base }
+        ensures stands { (base : Ground) → stands self.old base → stands self.new base }
         ensures event { OnOk result (MakesOwn (seen self.old) (seen self.new)) }
         ensures refused { OnErr result (seen self.new ≡ seen self.old) }
         ensures worn { (stamp : ℕ) → result ≡ Err (NoRoom.Worn stamp)
-            → (2 ^ 64 ≤ stamp) × (stamp ≡ greatest_stamp (own_moved (seen self.old))) }
-        ensures worn_first { 2 ^ 64 ≤ greatest_stamp (own_moved (seen self.old))
-            → result ≡ Err (NoRoom.Worn (greatest_stamp (own_moved (seen self.old)))) }
+            → (2 ^ 64 ≤ stamp) × (stamp ≡ greatest_stamp (seen self.old).moved) }
+        ensures worn_first { 2 ^ 64 ≤ greatest_stamp (seen self.old).moved
+            → result ≡ Err (NoRoom.Worn (greatest_stamp (seen self.old).moved)) }
         ensures never_fails_kept { never_fails self.old → never_fails self.new };
 
-    ghost told: { (c : Self) (memory : MemoryValue) → stands c memory → Stands (seen c) memory };
+    ghost told: { (c : Self) (base : Ground) → stands c base → Stands (seen c) base };
 
-    ghost left_standing: { (c : Self) (left found : MemoryValue) → stands c left
+    ghost left_standing: { (c : Self) (left found : Ground) → stands c left
         → FoundAgain (seen c).number left found → stands c found };
 }

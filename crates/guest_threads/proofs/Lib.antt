@@ -1,5 +1,7 @@
+mod DealLemmas
+mod HoldLemmas
 mod LockLemmas
 mod PlaceLemmas
 mod RunLemmas
 mod SeatLemmas
-mod Sent
+pub mod Sent

@@ -3,7 +3,7 @@ use Rattle.std.specs.Result.{result_and}
 use Rattle.std.proofs.lemmas.List.{get_or_append_left, get_or_push, length-append, map-append}
 use Rattle.std.proofs.lemmas.List.Elements.{All-push}
 use Rattle.event_core.specs.declared.clock.NoRoom.{NoRoom}
-use Rattle.claim_lock.specs.Seen.{PassSeen}
+use Rattle.guest_threads.specs.declared.locks.Passes.{Passes}
 use Rattle.guest_threads.specs.declared.places.Place.{Place}
 use Rattle.guest_threads.specs.Places.{IsFinished, IsRefused, passes_at, processors_at}
 
@@ -22,12 +22,12 @@ pub processors-push : {T : Type 0} (places : List (Place T)) (place : Place T) �
 processors-push [] place = refl
 processors-push (p ∷ ps) place = ap (λ l. l ++ p.processor ∷ []) (processors-push ps place)
 
-pub passes-push : {T : Type 0} (places : List (Place T)) (place : Place T) → passes_at (places ++ place ∷ []) ≡ place.pass ∷ passes_at places
+pub passes-push : {T : Type 0} (places : List (Place T)) (place : Place T) → passes_at (places ++ place ∷ []) ≡ place.passes ∷ passes_at places
 passes-push [] place = refl
-passes-push (p ∷ ps) place = ap (λ l. l ++ p.pass ∷ []) (passes-push ps place)
+passes-push (p ∷ ps) place = ap (λ l. l ++ p.passes ∷ []) (passes-push ps place)
 
-pub passes-last : (passes left : List PassSeen) (pass : PassSeen) → passes ≡ left ++ pass ∷ [] → map Some passes ≡ map Some left ++ Some pass ∷ []
-passes-last passes left pass is = ap (λ l. map Some l) is ∙ map-append (λ p. Some p) left (pass ∷ [])
+pub passes-last : (passes left : List Passes) (mine : Passes) → passes ≡ left ++ mine ∷ [] → map Some passes ≡ map Some left ++ Some mine ∷ []
+passes-last passes left mine is = ap (λ l. map Some l) is ∙ map-append (λ p. Some p) left (mine ∷ [])
 
 module _ {X : Type 0} (P : X → Type 0) where
   pub any-before : (xs : List X) (x : X) → Any P xs → Any P (xs ++ x ∷ [])

@@ -1,3 +1,4 @@
+pub mod Dealt
 pub mod Places
 pub mod Progress
 pub mod Seated

@@ -1,38 +1,39 @@
 use Rattle.std.specs.Prelude.{List, [], ◌∷◌, ◌++◌, Option, None, Some, Result, Err, IsOk, ◌≡◌, ◌≢◌}
 use Rattle.event_core.specs.declared.clock.NoRoom.{NoRoom}
-use Rattle.claim_lock.specs.Seen.{LockSeen, PassSeen}
-use Rattle.memory_core.specs.Value.{MemoryValue}
+use Rattle.guest_steps.specs.Ground.{Ground}
 use Rattle.guest_steps.specs.Seen.{Seen}
+use Rattle.guest_threads.specs.declared.locks.Locks.{Locks}
+use Rattle.guest_threads.specs.declared.locks.Passes.{Passes}
 use Rattle.guest_threads.specs.declared.places.Place.{Place}
 use Rattle.guest_threads.specs.Seated.{Seated, Ran}
 
 -- The places at which threads run processors (own rule).
 
--- the pass is there, and it is this processor's
-abbrev pub SeatedBy : {T : Type 0} → (T → Seen) → (T → MemoryValue → Type 0) → LockSeen
-    → Option PassSeen → T → Type 0
-SeatedBy seen stands lock None c = ⊥
-SeatedBy seen stands lock (Some pass) c = Seated seen stands lock pass c
+-- the passes are there, and they are this processor's
+abbrev pub SeatedBy : {T : Type 0} → (T → Seen) → (T → Ground → Type 0) → Locks
+    → Option Passes → T → Type 0
+SeatedBy seen stands locks None c = ⊥
+SeatedBy seen stands locks (Some passes) c = Seated seen stands locks passes c
 
-abbrev pub SeatedAt : {T : Type 0} → (T → Seen) → (T → MemoryValue → Type 0) → LockSeen
+abbrev pub SeatedAt : {T : Type 0} → (T → Seen) → (T → Ground → Type 0) → Locks
     → Place T → Type 0
-SeatedAt seen stands lock place = SeatedBy seen stands lock place.pass place.processor
+SeatedAt seen stands locks place = SeatedBy seen stands locks place.passes place.processor
 
--- the pass is there, with which a processor ran
-abbrev pub RanBy : {T : Type 0} → (T → Seen) → (T → MemoryValue → Type 0) → (T → Type 0)
-    → LockSeen → T → T → Option PassSeen → Result Unit NoRoom → Type 0
-RanBy seen stands NeverFails lock old new None answer = ⊥
-RanBy seen stands NeverFails lock old new (Some pass) answer =
-    Ran seen stands NeverFails lock old new pass answer
+-- the passes are there, with which a processor ran
+abbrev pub RanBy : {T : Type 0} → (T → Seen) → (T → Ground → Type 0) → (T → Type 0)
+    → Locks → T → T → Option Passes → Result Unit NoRoom → Type 0
+RanBy seen stands NeverFails locks old new None answer = ⊥
+RanBy seen stands NeverFails locks old new (Some passes) answer =
+    Ran seen stands NeverFails locks old new passes answer
 
-abbrev pub RanAt : {T : Type 0} → (T → Seen) → (T → MemoryValue → Type 0) → (T → Type 0)
-    → LockSeen → Place T → Place T → Type 0
-RanAt seen stands NeverFails lock old new =
-    RanBy seen stands NeverFails lock old.processor new.processor new.pass new.answer
+abbrev pub RanAt : {T : Type 0} → (T → Seen) → (T → Ground → Type 0) → (T → Type 0)
+    → Locks → Place T → Place T → Type 0
+RanAt seen stands NeverFails locks old new =
+    RanBy seen stands NeverFails locks old.processor new.processor new.passes new.answer
 
--- a pass is there
-abbrev pub HasPass : {T : Type 0} → Place T → Type 0
-HasPass place = place.pass ≢ None
+-- passes are there
+abbrev pub HasPasses : {T : Type 0} → Place T → Type 0
+HasPasses place = place.passes ≢ None
 
 -- the processor at a place is finished, or was refused
 abbrev pub IsFinished : {T : Type 0} → Place T → Type 0
@@ -47,6 +48,6 @@ abbrev pub processors_at : {T : Type 0} → List (Place T) → List T
 processors_at [] = []
 processors_at (place ∷ places) = processors_at places ++ place.processor ∷ []
 
-abbrev pub passes_at : {T : Type 0} → List (Place T) → List (Option PassSeen)
+abbrev pub passes_at : {T : Type 0} → List (Place T) → List (Option Passes)
 passes_at [] = []
-passes_at (place ∷ places) = passes_at places ++ place.pass ∷ []
+passes_at (place ∷ places) = passes_at places ++ place.passes ∷ []

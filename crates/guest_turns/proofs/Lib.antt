@@ -1,7 +1,6 @@
 pub mod EndLemmas
 pub mod GoOnLemmas
 pub mod LaterLemmas
-pub mod ListLemmas
 pub mod RestLemmas
 pub mod RoundLemmas
 pub mod StandLemmas

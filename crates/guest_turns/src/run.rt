@@ -2,6 +2,7 @@
 ghost use Rattle.std.specs.Prelude.{◌≡◌, ◌<◌, All, IsTrue, ◌↔◌, OnOk, length, map};
 ghost use Rattle.guest_base.specs.declared.memory.CpuNo.{CpuNo as CpuValue};
 ghost use Rattle.event_core.specs.Turns.{numbers_from};
+ghost use Rattle.guest_steps.specs.Ground.{ground_of};
 ghost use Rattle.guest_steps.specs.Running.{AllFinished, AllStand, AtFirst, EachLater, TurnedBy};
 ghost use Rattle.guest_steps.specs.Seen.{need_of};
 ghost use Rattle.guest_turns.specs.Walks.{GoOn, WalksOn, all_left};
@@ -9,6 +10,7 @@ ghost use Rattle.guest_turns.specs.Walks.{GoOn, WalksOn, all_left};
 use crate::turn::turn;
 use event_core::Order;
 use guest_steps::{Need, Processor};
+use io_areas::Area;
 use memory_core::Memory;
 use std::alloc::{AllocError, Global};
 
@@ -20,21 +22,25 @@ use std::alloc::{AllocError, Global};
 pub fn turns<T: Processor>(
     alloc: Global,
     memory: &mut Memory,
+    areas: &mut Vec<Area>,
     processors: &mut Vec<T>,
     order: &Order,
 ) -> Result<(), AllocError>
-    requires stand { AllStand T.seen T.stands memory.old.boot processors.old.items memory.old }
-    requires first { AtFirst (map T.seen processors.old.items) memory.old }
+    requires stand { AllStand T.seen T.stands memory.old.boot processors.old.items
+        (ground_of memory.old areas.old.items) }
+    requires first { AtFirst (map T.seen processors.old.items)
+        (ground_of memory.old areas.old.items) }
     requires order { All (λ (cpu : CpuValue). cpu.0 < length processors.old.items) order.now }
-    ensures stand { AllStand T.seen T.stands memory.old.boot processors.new.items memory.new }
+    ensures stand { AllStand T.seen T.stands memory.old.boot processors.new.items
+        (ground_of memory.new areas.new.items) }
     ensures later { EachLater T.seen T.never_fails processors.old.items processors.new.items }
     ensures finished { OnOk result (AllFinished (map T.seen processors.new.items)) }
     ensures turned { OnOk result (TurnedBy memory.old.boot (map T.seen processors.new.items)
         (map (λ (cpu : CpuValue). cpu.0) order.now)) }
 {
-    in_order(alloc, memory, processors, order)?;
+    in_order(alloc, memory, areas, processors, order)?;
     while !all_finished(processors) {
-        round(alloc, memory, processors)?;
+        round(alloc, memory, areas, processors)?;
     }
     Ok(())
 }
@@ -43,19 +49,21 @@ pub fn turns<T: Processor>(
 fn in_order<T: Processor>(
     alloc: Global,
     memory: &mut Memory,
+    areas: &mut Vec<Area>,
     processors: &mut Vec<T>,
     order: &Order,
 ) -> Result<(), AllocError>
-    requires stand { AllStand T.seen T.stands memory.old.boot processors.old.items memory.old }
+    requires stand { AllStand T.seen T.stands memory.old.boot processors.old.items
+        (ground_of memory.old areas.old.items) }
     requires order { All (λ (cpu : CpuValue). cpu.0 < length processors.old.items) order.now }
     ensures go_on { GoOn T.seen T.stands T.never_fails processors.old.items processors.new.items
-        memory.old memory.new }
+        (ground_of memory.old areas.old.items) (ground_of memory.new areas.new.items) }
     ensures walk { OnOk result (WalksOn (map (λ (cpu : CpuValue). cpu.0) order.now)
         (map T.seen processors.old.items) (map T.seen processors.new.items)
-        memory.old memory.new) }
+        (ground_of memory.old areas.old.items) (ground_of memory.new areas.new.items)) }
 {
     for cpu in order.as_slice() {
-        turn(alloc, memory, processors, cpu.0 as usize)?;
+        turn(alloc, memory, areas, processors, cpu.0 as usize)?;
     }
     Ok(())
 }
@@ -64,20 +72,22 @@ fn in_order<T: Processor>(
 fn round<T: Processor>(
     alloc: Global,
     memory: &mut Memory,
+    areas: &mut Vec<Area>,
     processors: &mut Vec<T>,
 ) -> Result<(), AllocError>
-    requires stand { AllStand T.seen T.stands memory.old.boot processors.old.items memory.old }
+    requires stand { AllStand T.seen T.stands memory.old.boot processors.old.items
+        (ground_of memory.old areas.old.items) }
     ensures go_on { GoOn T.seen T.stands T.never_fails processors.old.items processors.new.items
-        memory.old memory.new }
+        (ground_of memory.old areas.old.items) (ground_of memory.new areas.new.items) }
     ensures walk { OnOk result (WalksOn (numbers_from 0 (length processors.old.items))
         (map T.seen processors.old.items) (map T.seen processors.new.items)
-        memory.old memory.new) }
+        (ground_of memory.old areas.old.items) (ground_of memory.new areas.new.items)) }
     ensures less { OnOk result ((AllFinished (map T.seen processors.old.items) → ⊥)
-        → all_left (map T.seen processors.new.items) memory.new
-        < all_left (map T.seen processors.old.items) memory.old) }
+        → all_left (map T.seen processors.new.items) (ground_of memory.new areas.new.items)
+        < all_left (map T.seen processors.old.items) (ground_of memory.old areas.old.items)) }
 {
     for cpu in 0..processors.len() {
-        turn(alloc, memory, processors, cpu)?;
+        turn(alloc, memory, areas, processors, cpu)?;
     }
     Ok(())
 }

@@ -1,12 +1,12 @@
 use Rattle.std.proofs.Common.{ℕ, zero, suc, ◌+◌, ◌/◌, ◌≡◌, ◌≤◌, ◌<◌, ◌^◌, ◌==◌, ◌||◌, Bool, true, false, sym, ◌∙◌, ap, arith, inl, inr, leb, max, unwrap_or, subst, ⊎_elim}
 use Rattle.std.proofs.Math.Nat.{pow-succ'}
 use Rattle.std.proofs.Math.Pow.{pow_mono}
-use Rattle.std.proofs.lemmas.Bool.{cases_Bool, cases_lt, le-leb, lt-leb}
+use Rattle.std.proofs.lemmas.Bool.{cases_Bool, cases_lt, eqb-true, le-leb, lt-leb}
 use Rattle.std.proofs.lemmas.Bool.Decides.{nat_tests}
 use Rattle.std.specs.Int.{IsPowerOfTwo}
 use Rattle.guest_base.specs.Requests.{raised_to_power}
 use Rattle.guest_base.specs.Search.{any_such}
-use Rattle.guest_base.proofs.SearchLemmas.{IsFirstSuch, any_such-pass, any_such-fail, any_such-zero, any_such_is, first_such_is}
+use Rattle.guest_base.proofs.SearchLemmas.{IsFirstSuch, any_such-pass, any_such-fail, any_such-zero, any_such-true, first_such_is}
 use Rattle.guest_words.specs.Words.{is_areas, is_cpus}
 
 any_step : (test : ℕ → Bool) (from count : ℕ) → any_such test from (suc count) ≡ (test from || any_such test (from + 1) count)
@@ -29,8 +29,11 @@ areas_told count =
     ∙ ap (λ b. (count == 32) || b) (any_step test 6 0
     ∙ ap (λ b. (count == 64) || b) (any_such-zero test 7)))))))
 
-pub areas_small : (count : ℕ) → is_areas count ≡ true → count ≤ 64
-areas_small count h = let told = sym (areas_told count) ∙ h in grind (arith, told)
+pub areas_few : (count : ℕ) → is_areas count ≡ true → count ≤ 64
+areas_few count h = let told = sym (areas_told count) ∙ h in grind (arith, told)
+
+pub areas_power : (count : ℕ) → is_areas count ≡ true → IsPowerOfTwo count
+areas_power count h = let found = any_such-true (λ order. count == 2 ^ order) 0 7 h in (found.0, eqb-true _ _ found.1.passes)
 
 -- ---- a power of two from a number on
 
@@ -76,9 +79,11 @@ cpus_few : (n : ℕ) → is_cpus n ≡ true → n ≤ 64
 cpus_few n h = grind (arith, nat_tests, h)
 
 -- as many areas as processors, raised to a power of two
-pub of_areas : (n p : ℕ) → is_cpus n ≡ true → IsPowerOfTwo p → n ≤ p → p / 2 < max 1 n → is_areas p ≡ true
-of_areas n p few power above close =
+pub raised_few : (n p : ℕ) → is_cpus n ≡ true → IsPowerOfTwo p → n ≤ p → p / 2 < max 1 n → p ≤ 64
+raised_few n p few power above close =
     let k : ℕ = power.0 in
     let e : p ≡ 2 ^ k = power.1 in
-    let same : (p == 2 ^ k) ≡ true = grind (arith, nat_tests, e) in
-    any_such_is (λ order. p == 2 ^ order) 0 7 k (omega arith) (exponent_small k n (subst (λ q. q / 2 < max 1 n) e close) (cpus_few n few)) same
+    let small : k < 7 = exponent_small k n (subst (λ q. q / 2 < max 1 n) e close) (cpus_few n few) in
+    let low : k ≤ 6 = omega (arith, small) in
+    let below : 2 ^ k ≤ 2 ^ 6 = pow_mono low in
+    omega (arith, e, below)

@@ -55,7 +55,7 @@ table_again (x ∷ y ∷ xs) ys h = refl
 ends : Option ℕ → Option ℕ → Option (Option (List ℕ)) → Option (List ℕ) → List ℕ → List (List ℕ) → Option Named
 ends s a t order map scripts =
     s >>= (λ slots. a >>= (λ areas. t >>= (λ table.
-    if slots == 0 then Some (record { order = order; areas = areas; table = table; map = map; scripts = scripts }) else None)))
+    Some (record { order = order; slots = slots; areas = areas; table = table; map = map; scripts = scripts }))))
 
 ends_slots : (s a : Option ℕ) (t : Option (Option (List ℕ))) (order : Option (List ℕ)) (map : List ℕ) (scripts : List (List ℕ)) → s ≡ None → ends s a t order map scripts ≡ None
 unfolding ends

@@ -13,6 +13,7 @@ text_in (Some text) = Some text.now
 abbrev pub seen : Names → Named
 seen names = record {
   order = text_in names.order;
+  slots = names.slots;
   areas = names.areas;
   table = text_in names.table;
   map = names.map.now;

@@ -1,11 +1,12 @@
-use Rattle.std.specs.Prelude.{ℕ, ◌+◌, ◌^◌, ◌==◌, ◌&&◌, ◌||◌, nat_le, Bool, false, not, if◌then◌else◌, List, [], ◌∷◌, ◌++◌, length, codes, drop, position, Option, Some, None, String, string_bytes, map}
+use Rattle.std.specs.Prelude.{ℕ, ◌+◌, ◌^◌, ◌==◌, ◌≡◌, ◌≤◌, ◌&&◌, ◌||◌, nat_le, Bool, true, false, not, if◌then◌else◌, List, [], ◌∷◌, ◌++◌, length, codes, drop, position, Option, Some, None, String, string_bytes, map}
 use Rattle.std.specs.List.{before_first}
+use Rattle.std.specs.Int.{IsPowerOfTwo}
 use Rattle.std.specs.Option.{option_map}
 use Rattle.std.specs.Str.{bytes_eq}
 use Rattle.std.specs.declared.alloc.Global.{Global}
 use Rattle.guest_base.specs.Requests.{raised_to_power}
 use Rattle.guest_base.specs.Search.{any_such}
-use Rattle.guest_base.specs.declared.limits.TheConstants.{MAX_CPUS, MAX_SLOTS}
+use Rattle.guest_base.specs.declared.limits.TheConstants.{MAX_AREAS, MAX_CPUS, MAX_SLOTS}
 use Rattle.guest_words.specs.declared.numbers.TheConstants.{USUAL_SLOTS}
 use Rattle.guest_script.specs.Number.{number_of}
 use Rattle.guest_script.specs.Arguments.{bounded}
@@ -110,7 +111,8 @@ told_by place (word ∷ words) = do
   part ← part_of place word
   option_map (joined part.1) (told_by part.0 words)
 
--- the slots of the pool: 0 to 131,072, and 32,768 where the words give none (swiotlb.c has 64 MiB)
+-- the slots that are asked for the pool: 0, which is no pool, to 131,072, and 32,768 where the words
+-- give none (swiotlb.c has 64 MiB)
 abbrev pub slots_of : List (List ℕ) → Option ℕ
 slots_of [] = Some USUAL_SLOTS
 slots_of (value ∷ []) = bounded MAX_SLOTS (number_of value)
@@ -137,9 +139,11 @@ table_of [] = Some None
 table_of (value ∷ []) = Some (Some value)
 table_of (value ∷ other ∷ values) = None
 
--- what the words of a run name: files, and the areas of the pool; a run on threads has no order
+-- what the words of a run name: files, and the slots and areas that are asked for the pool; a run on
+-- threads has no order
 pub record Named : Type 0 where
   pub order : Option (List ℕ)
+  pub slots : ℕ
   pub areas : ℕ
   pub table : Option (List ℕ)
   pub map : List ℕ
@@ -153,21 +157,27 @@ cpus_in named = length named.scripts
 abbrev pub is_cpus : ℕ → Bool
 is_cpus count = nat_le 1 count && nat_le count MAX_CPUS
 
--- a run of these files, with the options that are told; a pool isn't built: only no slots
+-- what is named keeps the limits: of slots, of areas, which are a power of two, and of processors
+pub record KeepsLimits (named : Named) : Type 0 where
+  pub slots : named.slots ≤ MAX_SLOTS
+  pub areas : named.areas ≤ MAX_AREAS
+  pub power : IsPowerOfTwo named.areas
+  pub cpus : is_cpus (cpus_in named) ≡ true
+
+-- a run of these files, with the options that are told
 abbrev pub run_with : Option (List ℕ) → List ℕ → List (List ℕ) → Told → Option Named
 run_with order map scripts told = do
   slots ← slots_of told.slots
   areas ← areas_of (length scripts) told.areas
   table ← table_of told.table
-  if slots == 0
-      then Some (record {
-        order = order;
-        areas = areas;
-        table = table;
-        map = map;
-        scripts = scripts;
-      })
-      else None
+  Some (record {
+    order = order;
+    slots = slots;
+    areas = areas;
+    table = table;
+    map = map;
+    scripts = scripts;
+  })
 
 -- MAP SCRIPT.., with 1 to 64 scripts
 abbrev pub run_of : Option (List ℕ) → List (List ℕ) → Told → Option Named

@@ -1,7 +1,9 @@
 //! The numbers among the options.
-ghost use Rattle.std.specs.Prelude.{◌≡◌, IfSome, true};
+ghost use Rattle.std.specs.Prelude.{◌≡◌, ◌≤◌, IfSome, true};
+ghost use Rattle.std.specs.Int.{IsPowerOfTwo};
 ghost use Rattle.guest_words.specs.Words.{slots_of, areas_of, areas_in, is_areas, is_cpus};
 ghost use Rattle.guest_base.specs.Requests.{raised_to_power};
+ghost use Rattle.guest_base.specs.declared.limits.TheConstants.{MAX_AREAS, MAX_SLOTS};
 ghost use Rattle.guest_words.specs.Steps.{listed};
 
 use guest_base::limits::MAX_SLOTS;
@@ -10,9 +12,10 @@ use guest_script::read_number;
 /// The slots where the words give none.
 const USUAL_SLOTS: u32 = 32_768;
 
-/// The slots of the pool, 0 to 131,072. None where the value is no such number.
+/// The slots that are asked for the pool, 0 to 131,072. None where the value is no such number.
 pub(crate) fn read_slots(value: Option<&str>) -> Option<u32>
-    ensures { result ≡ slots_of (listed value.entry) }
+    ensures told { result ≡ slots_of (listed value.entry) }
+    ensures few { IfSome result (λ slots. slots ≤ MAX_SLOTS) }
 {
     let Some(value) = value else {
         return Some(USUAL_SLOTS);
@@ -30,7 +33,8 @@ pub(crate) fn read_slots(value: Option<&str>) -> Option<u32>
 pub(crate) fn read_areas(value: Option<&str>, cpus: u32) -> Option<u32>
     requires cpus { is_cpus cpus ≡ true }
     ensures told { result ≡ areas_of cpus (listed value.entry) }
-    ensures power { IfSome result (λ areas. is_areas areas ≡ true) }
+    ensures few { IfSome result (λ areas. areas ≤ MAX_AREAS) }
+    ensures power { IfSome result (λ areas. IsPowerOfTwo areas) }
 {
     match value {
         None => Some(raised(cpus)),
@@ -39,19 +43,22 @@ pub(crate) fn read_areas(value: Option<&str>, cpus: u32) -> Option<u32>
 }
 
 /// A number of processors, raised to a power of two.
-#[tactic(auto, using(crate::proofs::NumberLemmas::raises, crate::proofs::NumberLemmas::of_areas))]
+#[tactic(auto, using(crate::proofs::NumberLemmas::raises, crate::proofs::NumberLemmas::raised_few))]
 fn raised(cpus: u32) -> u32
     requires cpus { is_cpus cpus ≡ true }
     ensures raised { result ≡ raised_to_power cpus }
-    ensures power { is_areas result ≡ true }
+    ensures few { result ≤ MAX_AREAS }
+    ensures power { IsPowerOfTwo result }
 {
     cpus.next_power_of_two()
 }
 
-#[tactic(auto, using(crate::proofs::NumberLemmas::areas_small))]
+/// A number of areas; none where it is no power of two from 1 to 64.
+#[tactic(auto, using(crate::proofs::NumberLemmas::areas_few, crate::proofs::NumberLemmas::areas_power))]
 fn areas_in(count: u64) -> Option<u32>
     ensures told { result ≡ areas_in (Some count) }
-    ensures power { IfSome result (λ areas. is_areas areas ≡ true) }
+    ensures few { IfSome result (λ areas. areas ≤ MAX_AREAS) }
+    ensures power { IfSome result (λ areas. IsPowerOfTwo areas) }
 {
     if is_areas(count) {
         Some(count as u32)

@@ -117,13 +117,39 @@ fn empty_words(rt: HostRuntime) -> Result<(), Fail> {
     Ok(())
 }
 
+/// The slots and areas of a line that is in the grammar.
+fn pool_of(alloc: Global, line: &str) -> Result<Option<(u32, u32)>, AllocError> {
+    let words = words_of(alloc, line)?;
+    Ok(read_words(words.as_slice()).map(|names| (names.slots, names.areas)))
+}
+
+#[test]
+fn pools(rt: HostRuntime) -> Result<(), Fail> {
+    let alloc = rt.alloc();
+    for (line, slots, areas) in [
+        ("turns O A s", 32_768, 1),
+        ("run A s0 s1 s2", 32_768, 4),
+        ("run A --areas 2 s", 32_768, 2),
+        ("turns O A s --slots 0", 0, 1),
+        ("turns O A s --slots=1", 1, 1),
+        ("turns O A s --slots 128", 128, 1),
+        ("run --slots 256 --areas=2 A s0 s1", 256, 2),
+        ("run --slots=0x20000 --areas 64 A s", 131_072, 64),
+        ("run --slots 131072 -- A s", 131_072, 1),
+    ] {
+        assert_eq!(rt; pool_of(alloc, line)?, Some((slots, areas)));
+    }
+    Ok(())
+}
+
 #[test]
 fn other_slots(rt: HostRuntime) -> Result<(), Fail> {
     let alloc = rt.alloc();
     for line in [
-        "turns O A s",
-        "turns O A s --slots 128",
         "turns O A s --slots 131073",
+        "turns O A s --slots=0x100000000",
+        "turns O A s --slots 18446744073709551616",
+        "turns O A s --slots 128 --slots=128",
         "turns O A s --slots 0 --slots=0",
         "turns O A s --slots -1",
         "turns O A s --slots=-1",
@@ -182,7 +208,7 @@ fn other_words(rt: HostRuntime) -> Result<(), Fail> {
         "run",
         "run --slots 0",
         "run --slots 0 A",
-        "run A s",
+        "run A",
         "run --slots 0 A --order s",
         "Run --slots 0 A s",
         "show A",

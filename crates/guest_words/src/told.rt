@@ -1,7 +1,7 @@
 //! What the words tell so far.
 ghost use Rattle.std.specs.Prelude.{◌≡◌, IfSome, IfNone, OnSome, Some, length, true, false};
 ghost use Rattle.guest_script.specs.Words.{texts};
-ghost use Rattle.guest_words.specs.Words.{nothing, plain_word, is_areas, is_cpus, cpus_in, run_of};
+ghost use Rattle.guest_words.specs.Words.{nothing, plain_word, is_cpus, run_of, KeepsLimits};
 ghost use Rattle.guest_words.specs.Steps.{told, standing, told_after, value_of, option_of, next_of, names_of};
 ghost use Rattle.guest_words.specs.Views.{named, seen, text_in};
 ghost use Rattle.guest_words.specs.declared.place.Place.TheVariants.{Open as AtOpen};
@@ -126,8 +126,7 @@ impl<'a> SoFar<'a> {
     /// What the words name. None where they end too early, or what they tell isn't of a run.
     pub(crate) fn names(&self, mode: Mode) -> Option<Names<'a>>
         ensures named { named result ≡ names_of mode self.now.place (told self.now) }
-        ensures areas { IfSome result (λ names. is_areas names.areas ≡ true) }
-        ensures cpus { IfSome result (λ names. is_cpus (cpus_in (seen names)) ≡ true) }
+        ensures limits { IfSome result (λ names. KeepsLimits (seen names)) }
     {
         if let Place::Value(_) = self.place {
             return None;
@@ -144,8 +143,7 @@ impl<'a> SoFar<'a> {
     fn names_of(&self, order: Option<&'a str>, files: &[&'a str]) -> Option<Names<'a>>
         ensures named { named result
             ≡ run_of (text_in order.entry) (texts files.now) (told self.now) }
-        ensures areas { IfSome result (λ names. is_areas names.areas ≡ true) }
-        ensures cpus { IfSome result (λ names. is_cpus (cpus_in (seen names)) ≡ true) }
+        ensures limits { IfSome result (λ names. KeepsLimits (seen names)) }
     {
         let [map, scripts @ ..] = files else {
             return None;
@@ -153,11 +151,9 @@ impl<'a> SoFar<'a> {
         let scripts = scripts_in(scripts)?;
         let slots = read_slots(self.slots)?;
         let areas = read_areas(self.areas, scripts.len() as u32)?;
-        if slots != 0 {
-            return None;
-        }
         Some(Names {
             order,
+            slots,
             areas,
             table: self.table,
             map: *map,

@@ -1,6 +1,6 @@
 //! The words of a run.
-ghost use Rattle.std.specs.Prelude.{◌≡◌, true, IfSome};
-ghost use Rattle.guest_words.specs.Words.{bytes_of_words, cpus_in, is_areas, is_cpus, named_as, named_by};
+ghost use Rattle.std.specs.Prelude.{◌≡◌, IfSome};
+ghost use Rattle.guest_words.specs.Words.{bytes_of_words, cpus_in, named_as, named_by, KeepsLimits};
 ghost use Rattle.guest_words.specs.Views.{named, seen};
 
 use crate::mode::{Mode, mode_of};
@@ -16,6 +16,8 @@ pub const MAX_SCRIPTS: usize = MAX_CPUS as usize;
 pub struct Names<'a> {
     /// The file of the order, of a run by turns.
     pub order: Option<&'a str>,
+    /// The slots that are asked for the pool, 0 to 131,072; with 0 there is no pool.
+    pub slots: u32,
     /// The areas of the pool: a power of two from 1 to 64.
     pub areas: u32,
     /// The file of an earlier kernel's table.
@@ -38,12 +40,11 @@ impl Names<'_> {
 /// What the words name. None exactly where they aren't in the grammar: `turns`, and then ORDER MAP SCRIPT.., or `run`, and then
 /// MAP SCRIPT.., with 1 to 64 scripts, and the options `--slots N`, `--areas N` and `--table FILE` at any place behind the first
 /// word, each at most once, and spelt also `--slots=N`. `--` ends the options, and a value begins with no dash. N of `--slots`
-/// has to be given and to be 0; N of `--areas` is a power of two from 1 to 64, and where none is given the number of scripts,
-/// raised to a power of two. Takes no memory.
+/// is 0 to 131,072, and 32,768 where none is given; N of `--areas` is a power of two from 1 to 64, and where none is given the
+/// number of scripts, raised to a power of two. Takes no memory.
 pub fn read_words(words: &[String]) -> Option<Names<'_>>
     ensures named { named result ≡ named_by (bytes_of_words words.now) }
-    ensures areas { IfSome result (λ names. is_areas names.areas ≡ true) }
-    ensures cpus { IfSome result (λ names. is_cpus (cpus_in (seen names)) ≡ true) }
+    ensures limits { IfSome result (λ names. KeepsLimits (seen names)) }
 {
     let [command, rest @ ..] = words else {
         return None;
@@ -55,8 +56,7 @@ pub fn read_words(words: &[String]) -> Option<Names<'_>>
 /// What the words behind the first name.
 fn read_run(mode: Mode, words: &[String]) -> Option<Names<'_>>
     ensures named { named result ≡ named_as mode (bytes_of_words words.now) }
-    ensures areas { IfSome result (λ names. is_areas names.areas ≡ true) }
-    ensures cpus { IfSome result (λ names. is_cpus (cpus_in (seen names)) ≡ true) }
+    ensures limits { IfSome result (λ names. KeepsLimits (seen names)) }
 {
     let mut so_far = SoFar::new();
     for word in words {

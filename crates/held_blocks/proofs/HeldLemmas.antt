@@ -108,7 +108,7 @@ dropped (k ∷ ks) name =
 
 -- ---- bytes of one block written
 
-same-itself : (block : Block) → same_block block block ≡ true
+pub same-itself : (block : Block) → same_block block block ≡ true
 same-itself block = grind arith
 
 same-turned : (a b : Block) → same_block a b ≡ false → same_block b a ≡ false
@@ -177,7 +177,7 @@ where-err (Ok x) f h = tt
 where-err (Err e) f h = f h
 
 -- the kept block at the place of a name, with other bytes
-abbrev with_bytes : KeptBlock → Laid → KeptBlock
+abbrev pub with_bytes : KeptBlock → Laid → KeptBlock
 with_bytes k bytes = record { name = k.name; block = k.block; bytes = bytes }
 
 pub write-apart : (ks : List KeptBlock) (name : List ℕ) (i : ℕ) (k : KeptBlock) (bytes : Laid) → AreApart (map holding ks) →
@@ -215,7 +215,7 @@ ends-if : (block : Block) (at : ℕ) (more : List ℕ) (off len : ℕ) (h : Hold
 ends-if block at more off len h ends =
     elim (cases_Bool (same_block h.block block)) [ inl t ↦ rw t ends | inr f ↦ rw f ends ]
 
-name-if : (block : Block) (at : ℕ) (more : List ℕ) (h : Holding) → (write_if block at more h).name ≡ h.name
+pub name-if : (block : Block) (at : ℕ) (more : List ℕ) (h : Holding) → (write_if block at more h).name ≡ h.name
 name-if block at more h = elim (cases_Bool (same_block h.block block)) [ inl t ↦ rw t refl | inr f ↦ rw f refl ]
 
 ends-written : (block : Block) (at : ℕ) (more : List ℕ) (name : List ℕ) (off len : ℕ) (hs : List Holding) →
@@ -241,7 +241,7 @@ ends-after old new one name at off len more some wrote ends = found (block_named
 
 -- ---- what a load says
 
-row-length : (bytes : ℕ → ℕ) (from count : ℕ) → length (row_of bytes from count) ≡ count
+pub row-length : (bytes : ℕ → ℕ) (from count : ℕ) → length (row_of bytes from count) ≡ count
 row-length bytes from zero = refl
 row-length bytes from (suc count) = let h = row-length bytes (from + 1) count in omega (arith, h)
 

@@ -1,9 +1,10 @@
 -- The blocks that a processor holds, as its own entries tell them.
-use Rattle.std.specs.Prelude.{◌≡◌, ℕ, ◌+◌, ◌^◌, ◌≤◌, List, [], ◌∷◌, None, Bool, false, map}
+use Rattle.std.specs.Prelude.{◌≡◌, ℕ, ◌+◌, ◌^◌, ◌≤◌, List, [], ◌∷◌, Option, None, Bool, false, find, map}
 use Rattle.std.specs.List.{list_any}
-use Rattle.std.specs.Option.{IsSomeAnd}
+use Rattle.std.specs.Option.{IsSomeAnd, option_map_or}
 use Rattle.guest_base.specs.declared.limits.TheConstants.{MAX_ORDER, PAGE_END}
 use Rattle.guest_base.specs.declared.memory.Block.{Block}
+use Rattle.event_core.specs.Bytes.{row_of}
 use Rattle.event_core.specs.Holdings.{PrivateBlock, Holding, Own, block_named, block_bytes, same_block}
 use Rattle.sparse_bytes.specs.Runs.{byte_of}
 use Rattle.held_blocks.specs.declared.kept.KeptBlock.{KeptBlock}
@@ -38,6 +39,21 @@ EndsWithin own name off len =
 -- one of these is this block
 abbrev pub is_held : Block → List Holding → Bool
 is_held block blocks = list_any (λ (h : Holding). same_block h.block block) blocks
+
+-- the block of these that is one, if any
+abbrev pub holding_in : List Holding → Block → Option Holding
+holding_in blocks block = find (λ (h : Holding). same_block h.block block) blocks
+
+-- a range of its bytes
+abbrev pub bytes_held : List Holding → Block → ℕ → ℕ → List ℕ
+bytes_held blocks block off len =
+    option_map_or (λ (h : Holding). row_of h.bytes off len) (holding_in blocks block) []
+
+-- how many more writes and fills the bytes of a block that is held can take with no further memory
+abbrev pub write_room : Held → Block → ℕ
+write_room held block =
+    option_map_or (λ (k : KeptBlock). k.bytes.room)
+    (find (λ (k : KeptBlock). same_block k.block block) held.kept) 0
 
 -- a block has at most 1,024 pages and ends where memory ends at most
 pub record IsInMemory (block : Block) : Type 0 where

@@ -6,13 +6,13 @@ ghost use Rattle.block_laws.specs.BlockScripts.{IsOfBlocks};
 ghost use Rattle.event_core.specs.declared.boot.Boot.{Boot};
 ghost use Rattle.event_core.specs.declared.event.Event.TheVariants.{Got};
 ghost use Rattle.event_core.specs.Bytes.{row_of};
-ghost use Rattle.event_core.specs.Holdings.{block_named};
+ghost use Rattle.event_core.specs.Holdings.{block_bytes, block_named};
 ghost use Rattle.event_core.specs.Own.{after_alloc, with_bytes_at, without_block};
 ghost use Rattle.event_core.specs.OwnRows.{is_inside, strayed_bytes};
 ghost use Rattle.event_core.specs.Refusals.{refusal_of};
-ghost use Rattle.held_blocks.specs.Held.{blocks_of, holding, owned, is_held, AreApart, EndsWithin, IsInMemory};
+ghost use Rattle.held_blocks.specs.Held.{blocks_of, bytes_held, holding, holding_in, owned, is_held, write_room, AreApart, EndsWithin, IsInMemory};
 
-use crate::kept::{KeptBlock, drop_named, ends_inside, place_of};
+use crate::kept::{KeptBlock, drop_named, ends_inside, place_in, place_of};
 use crate::refusals::{
     refuse_bytes, refuse_load, refuse_range, refuse_span, refuse_taken, refuse_unknown,
 };
@@ -61,6 +61,7 @@ impl HeldBlocks {
         ensures ok { OnOk result (0 < self.new.room) }
         ensures same { blocks_of self.new ≡ blocks_of self.old }
         ensures room { self.old.room ≤ self.new.room }
+        ensures kept { self.new.kept ≡ self.old.kept }
     {
         self.kept.reserve(1)
     }
@@ -189,6 +190,63 @@ impl HeldBlocks {
     {
         match place_of(&self.kept, name) {
             Some(at) => self.kept[at].bytes.fill(off, len, byte),
+            None => unreachable!(),
+        }
+    }
+
+    /// A block that is held, as it is kept.
+    fn kept_in(&self, block: Block) -> &KeptBlock
+        requires { is_held block (blocks_of self.now) ≡ true }
+        ensures holding { holding_in (blocks_of self.now) block ≡ Some (holding result.now) }
+        ensures same { result.now.block ≡ block }
+        ensures memory { IsInMemory block }
+    {
+        match place_in(&self.kept, block) {
+            Some(at) => &self.kept[at],
+            None => unreachable!(),
+        }
+    }
+
+    /// The bytes of `len` places of a block that is held from `off` on, in order. `AllocError` is out of memory.
+    pub(crate) fn read_in(
+        &self,
+        alloc: Global,
+        block: Block,
+        off: u64,
+        len: u64,
+    ) -> Result<Bytes, AllocError>
+        requires held { is_held block (blocks_of self.now) ≡ true }
+        requires within { off + len ≤ block_bytes block }
+        ensures bytes { IfOk result (λ bytes.
+            bytes ≡ bytes_held (blocks_of self.now) block off len) }
+        ensures count { IfOk result (λ bytes. length bytes ≡ len) }
+    {
+        self.kept_in(block).bytes.read(alloc, off, len)
+    }
+
+    /// Makes room for one write to a block that is held. `AllocError` is out of memory. Whatever the answer, the blocks and
+    /// their bytes stay.
+    pub(crate) fn reserve_write(&mut self, block: Block) -> Result<(), AllocError>
+        requires { is_held block (blocks_of self.old) ≡ true }
+        ensures ok { OnOk result (0 < write_room self.new block) }
+        ensures same { blocks_of self.new ≡ blocks_of self.old }
+        ensures room { self.old.room ≤ self.new.room }
+    {
+        match place_in(&self.kept, block) {
+            Some(at) => self.kept[at].bytes.reserve(1),
+            None => unreachable!(),
+        }
+    }
+
+    /// Writes bytes of a block that is held from `off` on, and keeps them. It needs room for one write, and can't fail.
+    pub(crate) fn write_in(&mut self, block: Block, off: u64, bytes: Bytes)
+        requires held { is_held block (blocks_of self.old) ≡ true }
+        requires write_room { 0 < write_room self.old block }
+        ensures held { owned self.new ≡ with_bytes_at block off bytes (owned self.old) }
+        ensures room { self.old.room ≤ self.new.room }
+    {
+        match place_in(&self.kept, block) {
+            Some(at) => self.kept[at].bytes.write_reserved(off, bytes),
             None => unreachable!(),
         }
     }

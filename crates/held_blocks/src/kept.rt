@@ -3,7 +3,7 @@ ghost use Rattle.std.specs.Prelude.{◌≡◌, ◌<◌, ◌≤◌, true, false, 
 ghost use Rattle.std.specs.Str.{bytes_eq};
 ghost use Rattle.std.specs.VecDeque.{deque_capacity, deque_len};
 ghost use Rattle.event_core.specs.Bytes.{row_of};
-ghost use Rattle.event_core.specs.Holdings.{block_bytes};
+ghost use Rattle.event_core.specs.Holdings.{block_bytes, same_block};
 ghost use Rattle.event_core.specs.OwnRows.{is_inside, strayed_bytes};
 ghost use Rattle.held_blocks.specs.Held.{holding, IsInMemory};
 
@@ -87,6 +87,20 @@ pub(crate) fn place_of(kept: &VecDeque<KeptBlock>, name: &Name) -> Option<usize>
     ensures { result ≡ position (λ k. bytes_eq k.name name.now) kept.now.items }
 {
     kept.iter().position(|k| k.name.is(name))
+}
+
+/// The place of a block among those that are kept.
+pub(crate) fn place_in(kept: &VecDeque<KeptBlock>, block: Block) -> Option<usize>
+    ensures { result ≡ position (λ k. same_block k.block block) kept.now.items }
+{
+    kept.iter().position(|k| is_same(k.block, block))
+}
+
+/// Whether two blocks are one.
+fn is_same(one: Block, other: Block) -> bool
+    ensures { result ≡ same_block one other }
+{
+    one.first == other.first && one.order == other.order
 }
 
 /// Drops the blocks of a name.

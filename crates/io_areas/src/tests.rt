@@ -5,7 +5,7 @@ ghost use Rattle.guest_base.specs.declared.transfer.SlotRun.{SlotRun};
 ghost use Rattle.io_areas.specs.Value.{IsMine, IsRequest, MayStep};
 
 use crate::Area;
-use event_core::{Entries, Place, Turn};
+use event_core::{Entries, NoRoom, Place, Turn};
 use guest_base::{Align, CpuNo, Request, SlotRun};
 use std::alloc::Global;
 use std::test::Fail;
@@ -213,5 +213,25 @@ fn host_sees_the_bytes_of_free_slots(rt: HostRuntime) -> Result<(), Fail> {
     area.host_read(&mut turn, 2048 * 128 + 4, &mut out);
     assert_eq!(rt; out, [5, 7, 0]);
     assert!(rt; are_bare(&area.into_entries(), 1));
+    Ok(())
+}
+
+#[test]
+fn stamps_end_at_their_limit(rt: HostRuntime) -> Result<(), Fail> {
+    let alloc = rt.alloc();
+    let mut area = Area::new(alloc, 0, 128)?;
+    let mut turn = first_turn(0);
+    turn.clock = (1 << 64) - 1;
+    let mut out = [9];
+    assert!(rt; ready(alloc, &mut area, &turn, 1));
+    area.host_read(&mut turn, 0, &mut out);
+    assert_eq!(rt; area.reserve(alloc, 1), Err(NoRoom::Worn(1 << 64)));
+    let entries = area.into_entries();
+    assert!(rt;
+        entries
+            .as_slice()
+            .last()
+            .is_some_and(|entry| entry.stamp == 1 << 64)
+    );
     Ok(())
 }

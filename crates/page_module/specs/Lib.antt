@@ -5,4 +5,5 @@ pub mod Building
 pub mod Invariant
 pub mod Marking
 pub mod Modules
+pub mod Logged
 pub mod MemPort

@@ -1,5 +1,5 @@
 -- What a port in memory stands for.
-use Rattle.std.specs.Prelude.{◌≡◌, ℕ, ◌+◌, ◌-◌, ◌≤◌, Bool, List, [], length, vec_len, vec_capacity, if◌then◌else◌}
+use Rattle.std.specs.Prelude.{◌≡◌, ℕ, ◌+◌, ◌≤◌, Bool, List, [], length, if◌then◌else◌}
 use Rattle.guest_base.specs.Counts.{raised_by}
 use Rattle.guest_base.specs.Failing.{fails_at}
 use Rattle.event_core.specs.declared.module_call.ModuleCall.{ModuleCall}
@@ -9,7 +9,7 @@ use Rattle.page_module.specs.declared.mem_port.MemPort.{MemPort}
 
 -- the calls of the module so far, in order
 abbrev pub calls_made : MemPort → List ModuleCall
-calls_made port = port.calls.items
+calls_made port = port.log.calls
 
 -- the faults so far
 abbrev pub faults_of : MemPort → ℕ
@@ -17,7 +17,7 @@ faults_of port = port.faults
 
 -- how many calls can be made without memory
 abbrev pub room_of : MemPort → ℕ
-room_of port = vec_capacity port.calls - vec_len port.calls
+room_of port = port.log.room
 
 -- the numbers of the calls that are to fail
 abbrev pub failing_of : MemPort → List ℕ

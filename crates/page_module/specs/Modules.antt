@@ -1,5 +1,6 @@
 -- Calls of the secure module over the pages of a span.
-use Rattle.std.specs.Prelude.{◌≡◌, ℕ, ◌%◌, if◌then◌else◌}
+use Rattle.std.specs.Prelude.{◌≡◌, ◌⊎◌, ℕ, ◌+◌, ◌%◌, ◌≤◌, List, [], ◌∷◌, ◌++◌, if◌then◌else◌}
+use Rattle.guest_base.specs.Counts.{Rose}
 use Rattle.guest_base.specs.Levels.{level_pages}
 use Rattle.guest_base.specs.declared.memory.Level.{Level}
 use Rattle.guest_base.specs.declared.memory.Level.TheVariants.{Small}
@@ -41,3 +42,20 @@ abbrev pub AfterCall : PageState → Taken → Taken → ℕ → ℕ → PortAns
 AfterCall state old new first count Ok = Becomes state old new first count
 AfterCall state old new first count SizeMismatch = new ≡ old
 AfterCall state old new first count Failed = new ≡ old
+
+-- What a call leaves where the calls are kept, and of the span whose pages it makes have a state: it is
+-- recorded, the span is as after its answer, and it takes one place of the room at most.
+pub record MakesCall {K : Type 0} (calls_in : K → List ModuleCall) (room_in : K → ℕ) (old new : K)
+    (state : PageState) (before after : Taken) (call : ModuleCall) : Type 0 where
+  pub recorded : calls_in new ≡ calls_in old ++ call ∷ []
+  pub marked : AfterCall state before after call.first call.count call.answer
+  pub room_used : room_in old ≤ room_in new + 1
+
+-- What a port answers to a call, where the answer without a fault is `honest`: that, or Failed, which
+-- comes only where the count of faults rises. Faults stay, and so does that no call ever fails.
+pub record Answers {P : Type 0} (faults_of : P → ℕ) (NeverFails : P → Type 0) (old new : P)
+    (honest result : PortAnswer) : Type 0 where
+  pub answer : (result ≡ Failed) ⊎ (result ≡ honest)
+  pub failed : result ≡ Failed → Rose (faults_of old) (faults_of new)
+  pub faults_kept : faults_of old ≤ faults_of new
+  pub never_fails_kept : NeverFails old → NeverFails new

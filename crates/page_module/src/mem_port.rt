@@ -1,21 +1,21 @@
 //! A port in memory.
-ghost use Rattle.std.specs.Prelude.{◌≡◌, ◌+◌, ◌<◌, ◌≤◌, ◌⊎◌, [], ◌∷◌, ◌++◌, OnOk, vec_len, vec_capacity};
-ghost use Rattle.guest_base.specs.Levels.{level_pages};
+ghost use Rattle.std.specs.Prelude.{◌≡◌, ◌<◌, ◌≤◌, [], OnOk};
 ghost use Rattle.guest_base.specs.declared.memory.PageState.TheVariants.{Pending, Accepted, Shared};
 ghost use Rattle.event_core.specs.declared.module_call.CallKind.TheVariants.{Share, Unshare, Give};
-ghost use Rattle.page_module.specs.Spans.{BeginsPending, SpanIs};
-ghost use Rattle.page_module.specs.Modules.{MayAccept, answer_by, accept_call, span_call, AfterCall};
+ghost use Rattle.page_module.specs.Spans.{SpanIs};
+ghost use Rattle.page_module.specs.Modules.{MayAccept, answer_by, accept_call, span_call, MakesCall};
 
-use crate::port::Port;
+use crate::log::CallLog;
+use crate::port::{Port, answer_without_fault};
 use crate::span::Span;
-use event_core::{CallKind, ModuleCall, PortAnswer};
-use guest_base::{Level, Page, PageState, Pages};
+use event_core::{CallKind, PortAnswer};
+use guest_base::{Level, Page, PageState};
 use std::alloc::{AllocError, Global};
 
 /// A port that fails at the calls that it is told to fail at, and does every other.
 #[derive(Debug, Drop)]
 pub struct MemPort {
-    calls: Vec<ModuleCall>,
+    log: CallLog,
     /// The calls that fail, counted from 1.
     failing: Vec<u64>,
     faults: u64,
@@ -33,7 +33,7 @@ impl MemPort {
         ensures never_fails { failing.items ≡ [] → NeverFails result }
     {
         MemPort {
-            calls: Vec::new(alloc),
+            log: CallLog::new(alloc),
             failing,
             faults: 0,
         }
@@ -45,7 +45,7 @@ impl MemPort {
         ensures answers { FailsAsTold self.old self.new honest result }
         ensures rest { self.new ≡ record self.old { faults = self.new.faults } }
     {
-        let number = self.calls.len() as u64 + 1;
+        let number = self.log.next_number();
         if self.failing.as_slice().contains(&number) {
             self.faults = self.faults.saturating_add(1);
             PortAnswer::Failed
@@ -54,68 +54,16 @@ impl MemPort {
         }
     }
 
-    /// Records a call.
-    fn note(&mut self, kind: CallKind, pages: Pages, level: Level, answer: PortAnswer)
-        requires { vec_len self.old.calls < vec_capacity self.old.calls }
-        ensures calls { self.new.calls.items ≡ self.old.calls.items ++ record {
-          kind = kind;
-          first = pages.first;
-          count = pages.count;
-          level = level;
-          answer = answer;
-        } ∷ [] }
-        ensures len { vec_len self.new.calls ≡ vec_len self.old.calls + 1 }
-        ensures capacity { vec_capacity self.old.calls ≤ vec_capacity self.new.calls }
-        ensures faults { self.new.faults ≡ self.old.faults }
-        ensures failing { self.new.failing ≡ self.old.failing }
-    {
-        let call = ModuleCall {
-            kind,
-            first: pages.first,
-            count: pages.count,
-            level,
-            answer,
-        };
-        self.calls.push_reserved(call);
-    }
-
     /// The call of a kind for all pages of a span, which makes them have a state where its answer is Ok.
     fn call_for_all(&mut self, span: &mut Span, kind: CallKind, state: PageState) -> PortAnswer
         requires room { 0 < room_of self.old }
-        ensures recorded { calls_made self.new
-            ≡ calls_made self.old ++ span_call kind span.old result ∷ [] }
+        ensures made { MakesCall calls_made room_of self.old self.new state span.old span.new
+            (span_call kind span.old result) }
         ensures answers { FailsAsTold self.old self.new PortAnswer.Ok result }
-        ensures after { AfterCall state span.old span.new span.old.ticket.pages.first
-            span.old.ticket.pages.count result }
-        ensures room_used { room_of self.old ≤ room_of self.new + 1 }
     {
-        let pages = span.pages();
         let answer = self.answer(PortAnswer::Ok);
-        mark_if_done(span, pages, state, answer);
-        self.note(kind, pages, Level::Small, answer);
+        self.log.make_for_all(span, kind, state, answer);
         answer
-    }
-}
-
-/// The answer to an accept call of `level` that doesn't fail, where the host has mapped at `host`.
-fn answer_without_fault(level: Level, host: Level) -> PortAnswer
-    ensures { result ≡ answer_by level host }
-{
-    if host.pages() < level.pages() {
-        PortAnswer::SizeMismatch
-    } else {
-        PortAnswer::Ok
-    }
-}
-
-/// Gives these pages of the span a state, where the answer is Ok.
-fn mark_if_done(span: &mut Span, pages: Pages, state: PageState, answer: PortAnswer)
-    requires { (pages ≡ span.old.ticket.pages)
-        ⊎ ((state ≡ Accepted) × BeginsPending span.old pages.first pages.count) }
-    ensures { AfterCall state span.old span.new pages.first pages.count answer }
-{
-    if answer == PortAnswer::Ok {
-        span.mark(pages, state);
     }
 }
 
@@ -139,37 +87,27 @@ impl Port for MemPort {
         ensures faults { faults_of self.new ≡ faults_of self.old }
         ensures failing { failing_of self.new ≡ failing_of self.old }
     {
-        self.calls.reserve(calls as usize)
+        self.log.reserve(calls)
     }
 
     fn accept(&mut self, span: &mut Span, at: Page, level: Level, host: Level) -> PortAnswer
         requires room { 0 < room_of self.old }
         requires may { MayAccept span.old at.0 level }
-        ensures recorded { calls_made self.new
-            ≡ calls_made self.old ++ accept_call at.0 level result ∷ [] }
+        ensures made { MakesCall calls_made room_of self.old self.new Accepted span.old span.new
+            (accept_call at.0 level result) }
         ensures answers { FailsAsTold self.old self.new (answer_by level host) result }
-        ensures after { AfterCall Accepted span.old span.new at.0 (level_pages level) result }
-        ensures room_used { room_of self.old ≤ room_of self.new + 1 }
     {
-        let pages = Pages {
-            first: at.0,
-            count: level.pages(),
-        };
         let answer = self.answer(answer_without_fault(level, host));
-        mark_if_done(span, pages, PageState::Accepted, answer);
-        self.note(CallKind::Accept, pages, level, answer);
+        self.log.make_accept(span, at, level, answer);
         answer
     }
 
     fn share(&mut self, span: &mut Span) -> PortAnswer
         requires room { 0 < room_of self.old }
         requires accepted { SpanIs Accepted span.old }
-        ensures recorded { calls_made self.new
-            ≡ calls_made self.old ++ span_call Share span.old result ∷ [] }
+        ensures made { MakesCall calls_made room_of self.old self.new Shared span.old span.new
+            (span_call Share span.old result) }
         ensures answers { FailsAsTold self.old self.new PortAnswer.Ok result }
-        ensures after { AfterCall Shared span.old span.new span.old.ticket.pages.first
-            span.old.ticket.pages.count result }
-        ensures room_used { room_of self.old ≤ room_of self.new + 1 }
     {
         self.call_for_all(span, CallKind::Share, PageState::Shared)
     }
@@ -177,12 +115,9 @@ impl Port for MemPort {
     fn unshare(&mut self, span: &mut Span) -> PortAnswer
         requires room { 0 < room_of self.old }
         requires shared { SpanIs Shared span.old }
-        ensures recorded { calls_made self.new
-            ≡ calls_made self.old ++ span_call Unshare span.old result ∷ [] }
+        ensures made { MakesCall calls_made room_of self.old self.new Pending span.old span.new
+            (span_call Unshare span.old result) }
         ensures answers { FailsAsTold self.old self.new PortAnswer.Ok result }
-        ensures after { AfterCall Pending span.old span.new span.old.ticket.pages.first
-            span.old.ticket.pages.count result }
-        ensures room_used { room_of self.old ≤ room_of self.new + 1 }
     {
         self.call_for_all(span, CallKind::Unshare, PageState::Pending)
     }
@@ -190,12 +125,9 @@ impl Port for MemPort {
     fn give(&mut self, span: &mut Span) -> PortAnswer
         requires room { 0 < room_of self.old }
         requires accepted { SpanIs Accepted span.old }
-        ensures recorded { calls_made self.new
-            ≡ calls_made self.old ++ span_call Give span.old result ∷ [] }
+        ensures made { MakesCall calls_made room_of self.old self.new Pending span.old span.new
+            (span_call Give span.old result) }
         ensures answers { FailsAsTold self.old self.new PortAnswer.Ok result }
-        ensures after { AfterCall Pending span.old span.new span.old.ticket.pages.first
-            span.old.ticket.pages.count result }
-        ensures room_used { room_of self.old ≤ room_of self.new + 1 }
     {
         self.call_for_all(span, CallKind::Give, PageState::Pending)
     }

@@ -1,12 +1,10 @@
 //! Ports to the secure module.
-ghost use Rattle.std.specs.Prelude.{◌≡◌, ◌≢◌, ℕ, List, [], ◌∷◌, ◌++◌, ◌+◌, ◌<◌, ◌≤◌, ◌⊎◌, OnOk};
-ghost use Rattle.guest_base.specs.Counts.{Rose};
-ghost use Rattle.guest_base.specs.Levels.{level_pages};
+ghost use Rattle.std.specs.Prelude.{◌≡◌, ℕ, List, ◌<◌, ◌≤◌, OnOk};
 ghost use Rattle.guest_base.specs.declared.memory.PageState.TheVariants.{Pending, Accepted, Shared};
 ghost use Rattle.event_core.specs.declared.module_call.ModuleCall.{ModuleCall};
 ghost use Rattle.event_core.specs.declared.module_call.CallKind.TheVariants.{Share, Unshare, Give};
 ghost use Rattle.page_module.specs.Spans.{SpanIs};
-ghost use Rattle.page_module.specs.Modules.{MayAccept, answer_by, accept_call, span_call, AfterCall};
+ghost use Rattle.page_module.specs.Modules.{MayAccept, answer_by, accept_call, span_call, MakesCall, Answers};
 
 use crate::span::Span;
 use event_core::PortAnswer;
@@ -46,13 +44,10 @@ pub trait Port {
     fn accept(&mut self, span: &mut Span, at: Page, level: Level, host: Level) -> PortAnswer
         requires room { 0 < room self.old }
         requires may { MayAccept span.old at.0 level }
-        ensures recorded { made self.new ≡ made self.old ++ accept_call at.0 level result ∷ [] }
-        ensures answer { (result ≡ PortAnswer.Failed) ⊎ (result ≡ answer_by level host) }
-        ensures failed { result ≡ PortAnswer.Failed → Rose (faults self.old) (faults self.new) }
-        ensures after { AfterCall Accepted span.old span.new at.0 (level_pages level) result }
-        ensures faults_kept { faults self.old ≤ faults self.new }
-        ensures room_used { room self.old ≤ room self.new + 1 }
-        ensures never_fails_kept { never_fails self.old → never_fails self.new };
+        ensures made { MakesCall made room self.old self.new Accepted span.old span.new
+            (accept_call at.0 level result) }
+        ensures answers { Answers faults never_fails self.old self.new (answer_by level host)
+            result };
 
     /// Asks the module to open the span's pages, which are all Accepted, to the host. Ok makes all Shared.
     ///
@@ -60,14 +55,9 @@ pub trait Port {
     fn share(&mut self, span: &mut Span) -> PortAnswer
         requires room { 0 < room self.old }
         requires accepted { SpanIs Accepted span.old }
-        ensures recorded { made self.new ≡ made self.old ++ span_call Share span.old result ∷ [] }
-        ensures answer { (result ≡ PortAnswer.Failed) ⊎ (result ≡ PortAnswer.Ok) }
-        ensures failed { result ≡ PortAnswer.Failed → Rose (faults self.old) (faults self.new) }
-        ensures after { AfterCall Shared span.old span.new
-            span.old.ticket.pages.first span.old.ticket.pages.count result }
-        ensures faults_kept { faults self.old ≤ faults self.new }
-        ensures room_used { room self.old ≤ room self.new + 1 }
-        ensures never_fails_kept { never_fails self.old → never_fails self.new };
+        ensures made { MakesCall made room self.old self.new Shared span.old span.new
+            (span_call Share span.old result) }
+        ensures answers { Answers faults never_fails self.old self.new PortAnswer.Ok result };
 
     /// Asks the module to take the span's pages, which are all Shared, back from the host. Ok makes all
     /// Pending.
@@ -76,14 +66,9 @@ pub trait Port {
     fn unshare(&mut self, span: &mut Span) -> PortAnswer
         requires room { 0 < room self.old }
         requires shared { SpanIs Shared span.old }
-        ensures recorded { made self.new ≡ made self.old ++ span_call Unshare span.old result ∷ [] }
-        ensures answer { (result ≡ PortAnswer.Failed) ⊎ (result ≡ PortAnswer.Ok) }
-        ensures failed { result ≡ PortAnswer.Failed → Rose (faults self.old) (faults self.new) }
-        ensures after { AfterCall Pending span.old span.new
-            span.old.ticket.pages.first span.old.ticket.pages.count result }
-        ensures faults_kept { faults self.old ≤ faults self.new }
-        ensures room_used { room self.old ≤ room self.new + 1 }
-        ensures never_fails_kept { never_fails self.old → never_fails self.new };
+        ensures made { MakesCall made room self.old self.new Pending span.old span.new
+            (span_call Unshare span.old result) }
+        ensures answers { Answers faults never_fails self.old self.new PortAnswer.Ok result };
 
     /// Asks the module to give the span's pages, which are all Accepted, back to the host. Ok makes all
     /// Pending.
@@ -92,15 +77,21 @@ pub trait Port {
     fn give(&mut self, span: &mut Span) -> PortAnswer
         requires room { 0 < room self.old }
         requires accepted { SpanIs Accepted span.old }
-        ensures recorded { made self.new ≡ made self.old ++ span_call Give span.old result ∷ [] }
-        ensures answer { (result ≡ PortAnswer.Failed) ⊎ (result ≡ PortAnswer.Ok) }
-        ensures failed { result ≡ PortAnswer.Failed → Rose (faults self.old) (faults self.new) }
-        ensures after { AfterCall Pending span.old span.new
-            span.old.ticket.pages.first span.old.ticket.pages.count result }
-        ensures faults_kept { faults self.old ≤ faults self.new }
-        ensures room_used { room self.old ≤ room self.new + 1 }
-        ensures never_fails_kept { never_fails self.old → never_fails self.new };
+        ensures made { MakesCall made room self.old self.new Pending span.old span.new
+            (span_call Give span.old result) }
+        ensures answers { Answers faults never_fails self.old self.new PortAnswer.Ok result };
 
     /// What never fails has no fault.
     ghost no_fault: { (port : Self) → never_fails port → faults port ≡ 0 };
+}
+
+/// The answer to an accept call of `level` that doesn't fail, where the host has mapped at `host`.
+pub fn answer_without_fault(level: Level, host: Level) -> PortAnswer
+    ensures { result ≡ answer_by level host }
+{
+    if host.pages() < level.pages() {
+        PortAnswer::SizeMismatch
+    } else {
+        PortAnswer::Ok
+    }
 }

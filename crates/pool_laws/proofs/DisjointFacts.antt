@@ -28,7 +28,8 @@ use Rattle.event_core.proofs.SoundLemmas.{legal-front}
 use Rattle.event_core.proofs.StandingLemmas.{IsPlaced}
 use Rattle.pool_laws.specs.Live.{live_in}
 use Rattle.pool_laws.proofs.LiveLemmas.{apart-from-live, found-free, live-in-push, same-run, without}
-use Rattle.pool_laws.proofs.StepFacts.{IsLook, NoLook, command-of, need-some, own_after, some-same, step_told}
+use Rattle.event_core.proofs.CommandLemmas.{command-of, some-same, step_told}
+use Rattle.pool_laws.proofs.StepFacts.{IsLook, NoLook, known-of, need-some, own_after}
 
 -- ---- an area's own entries tell its live runs
 
@@ -189,7 +190,7 @@ after-entry : (boot : Boot) (scripts : List (List Command)) (history : List Move
     → (IsFoundThere entry.event) × AreApart (live_after (live_in history) entry.event)
 after-entry boot scripts history entry stands f =
     let c = command-of boot scripts history entry f in
-    elim c.known [
+    elim (known-of boot scripts history entry f) [
       | inl plain ↦ (found-plain entry.event plain.event, apart-plain entry.event (live_in history) plain.event stands.live)
       | inr look ↦ after-look boot scripts history entry c.command stands f look
     ]

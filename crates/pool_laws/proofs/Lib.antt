@@ -1,5 +1,4 @@
 pub mod DisjointFacts
 pub mod LiveLemmas
 pub mod LookFacts
-pub mod RefusalFacts
 pub mod StepFacts

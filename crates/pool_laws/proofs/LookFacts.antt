@@ -33,8 +33,8 @@ use Rattle.event_core.specs.Pool.{run_found}
 use Rattle.event_core.proofs.LocalLemmas.{moved-entries}
 use Rattle.event_core.proofs.SoundLemmas.{legal-front}
 use Rattle.pool_laws.proofs.LiveLemmas.{made-by-other, made-by-push, nothing-fits}
-use Rattle.pool_laws.proofs.RefusalFacts.{NotFull}
-use Rattle.pool_laws.proofs.StepFacts.{IsKnown, IsLook, NoLook, command-of, follows-at, need-some, some-same, step_told}
+use Rattle.event_core.proofs.CommandLemmas.{command-of, follows-at, some-same, step_told}
+use Rattle.pool_laws.proofs.StepFacts.{IsKnown, IsLook, NoLook, NotFull, known-of, need-some}
 
 -- ---- the areas that are looked in
 
@@ -236,7 +236,7 @@ map-looks : (mapping name : List ℕ) (off : ℕ) (direction : Direction) (e : E
 map-looks mapping name off direction (event.Looked area run) own plain = absurd plain
 map-looks mapping name off direction e own plain = refl
 
-told-looks : (c : Option Command) (m : Moved) (own : Own) → NoLook m.entry.event → (told c m own).looks ≡ own.looks
+pub told-looks : (c : Option Command) (m : Moved) (own : Own) → NoLook m.entry.event → (told c m own).looks ≡ own.looks
 told-looks (Some (command.Alloc name order)) m own plain = alloc-looks name m.entry.event own
 told-looks (Some (command.Free name)) m own plain = free-looks name m.entry.event own
 told-looks (Some (command.Write name off hex)) m own plain = write-looks name off hex m.entry.reply own
@@ -253,14 +253,14 @@ found-plain : (e : Event) (area : ℕ) → NoLook e → found_none area e ≡ fa
 found-plain (event.Looked looked run) area plain = absurd plain
 found-plain e area plain = refl
 
-own-push : (script : List Command) (own : List Moved) (m : Moved) → own_of script (own ++ m ∷ []) ≡ own_step script (own_of script own) m
+pub own-push : (script : List Command) (own : List Moved) (m : Moved) → own_of script (own ++ m ∷ []) ≡ own_step script (own_of script own) m
 unfolding own_of
 own-push script own m = fold-append (own_step script) nothing own (m ∷ [])
 
 -- ---- a look and its reply
 
 -- a look that doesn't end its command found none, and isn't the last
-look-goes-on : (boot : Boot) (looks : ℕ) (found : Option SlotRun) → look_reply boot looks found ≡ None → (found ≡ None) × (looks + 1 ≡ boot.areas → ⊥)
+pub look-goes-on : (boot : Boot) (looks : ℕ) (found : Option SlotRun) → look_reply boot looks found ≡ None → (found ≡ None) × (looks + 1 ≡ boot.areas → ⊥)
 look-goes-on boot looks (Some run) is = cc
 look-goes-on boot looks None is = (
   refl,
@@ -280,12 +280,12 @@ look-full boot looks None is =
     ]
 
 -- What a look of a command is: where it looks, what it finds there, and its reply.
-record Look (boot : Boot) (cpu looks : ℕ) (own : Own) (there : List Moved) (c : Command) (entry : Entry) : Type 0 where
-  found : Option SlotRun
-  event : entry.event ≡ event.Looked (place_at boot.areas (cpu % boot.areas) looks) found
-  reply : entry.reply ≡ look_reply boot looks found
+pub record Look (boot : Boot) (cpu looks : ℕ) (own : Own) (there : List Moved) (c : Command) (entry : Entry) : Type 0 where
+  pub found : Option SlotRun
+  pub event : entry.event ≡ event.Looked (place_at boot.areas (cpu % boot.areas) looks) found
+  pub reply : entry.reply ≡ look_reply boot looks found
 
-look-of : (boot : Boot) (cpu : ℕ) (own : Own) (there : List Moved) (c : Command) (entry : Entry) → IsLook boot cpu own there c (step_told entry) → Look boot cpu own.looks own there c entry
+pub look-of : (boot : Boot) (cpu : ℕ) (own : Own) (there : List Moved) (c : Command) (entry : Entry) → IsLook boot cpu own there c (step_told entry) → Look boot cpu own.looks own there c entry
 look-of boot cpu own there c entry look =
     let request : Request = request_of (PAGE_BYTES * look.holding.block.first + look.off) look.len look.mask in
     let same = some-same _ (step_told entry) look.step in
@@ -296,7 +296,7 @@ look-of boot cpu own there c entry look =
     }
 
 -- one more look is counted
-look-counted : (boot : Boot) (cpu : ℕ) (own : Own) (there : List Moved) (c : Command) (m : Moved) (area : ℕ) → IsLook boot cpu own there c (step_told m.entry) → m.entry.event ≡ event.Looked area None → (told (Some c) m own).looks ≡ own.looks + 1
+pub look-counted : (boot : Boot) (cpu : ℕ) (own : Own) (there : List Moved) (c : Command) (m : Moved) (area : ℕ) → IsLook boot cpu own there c (step_told m.entry) → m.entry.event ≡ event.Looked area None → (told (Some c) m own).looks ≡ own.looks + 1
 look-counted boot cpu own there c m area look is =
     ap (λ (d : Command). (told (Some d) m own).looks) look.is ∙ ap (λ (e : Event). (after_map look.mapping look.name look.off look.direction e own).looks) is
 
@@ -309,7 +309,7 @@ StandsFor boot scripts cpu own = LooksStand boot.areas (cpu % boot.areas) (repli
 pub record AllLooksStand (boot : Boot) (scripts : List (List Command)) (history : List Moved) : Type 0 where
   pub looks : (cpu : ℕ) → StandsFor boot scripts cpu (made_by cpu history)
 
-replied-push : (own : List Moved) (m : Moved) (said : Option Reply) → m.entry.reply ≡ said → replied (own ++ m ∷ []) ≡ replied own + cond (is_some said) 1 0
+pub replied-push : (own : List Moved) (m : Moved) (said : Option Reply) → m.entry.reply ≡ said → replied (own ++ m ∷ []) ≡ replied own + cond (is_some said) 1 0
 replied-push own m said is = count-push (λ (n : Moved). is_some n.entry.reply) own m ∙ ap (λ r. replied own + cond (is_some r) 1 0) is
 
 -- A processor's own entries, and one more that its command makes.
@@ -373,7 +373,7 @@ looks-more boot script cpu own there m (Some r) more is stands =
 
 more-of : (boot : Boot) (scripts : List (List Command)) (history : List Moved) (entry : Entry) → Follows boot scripts history entry
     → OneMore boot (script_of scripts entry.cpu.0) entry.cpu.0 (made_by entry.cpu.0 history) (at_place entry.place history) (with_bytes boot scripts history entry)
-more-of boot scripts history entry f = let c = command-of boot scripts history entry f in record { number = f.over.number; command = c.command; its = c.its; known = c.known }
+more-of boot scripts history entry f = let c = command-of boot scripts history entry f in record { number = f.over.number; command = c.command; its = c.its; known = known-of boot scripts history entry f }
 
 looks-push : (boot : Boot) (scripts : List (List Command)) (history : List Moved) (entry : Entry) → Follows boot scripts history entry → AllLooksStand boot scripts history
     → AllLooksStand boot scripts (history ++ with_bytes boot scripts history entry ∷ [])
@@ -484,7 +484,7 @@ only-full boot scripts before entry some stands is area inside =
     let own = own_before boot scripts before entry in
     let there = place_before boot scripts before entry in
     let c = command-of boot scripts (with_moved boot scripts before) entry stands.follows in
-    elim c.known [
+    elim (known-of boot scripts (with_moved boot scripts before) entry stands.follows) [
       | inl plain ↦ absurd (not-full entry.reply plain.reply is)
       | inr look ↦
           (let its = look-of boot cpu own there c.command entry look in
@@ -507,7 +507,7 @@ always-full boot scripts before entry area some stands looked everywhere =
     let own = own_before boot scripts before entry in
     let there = place_before boot scripts before entry in
     let c = command-of boot scripts (with_moved boot scripts before) entry stands.follows in
-    elim c.known [
+    elim (known-of boot scripts (with_moved boot scripts before) entry stands.follows) [
       | inl plain ↦ absurd (no-look entry.event area None plain.event looked)
       | inr look ↦
           (let its = look-of boot cpu own there c.command entry look in
@@ -546,7 +546,7 @@ empty-fits boot scripts before entry mapping name off len mask area direction h 
     let own = own_before boot scripts before entry in
     let there = place_before boot scripts before entry in
     let c = command-of boot scripts (with_moved boot scripts before) entry follows in
-    elim c.known [
+    elim (known-of boot scripts (with_moved boot scripts before) entry follows) [
       | inl plain ↦ absurd (no-look entry.event area None plain.event looked)
       | inr look ↦
           (let parts = map-same mapping look.mapping name look.name off look.off len look.len direction look.direction mask look.mask (some-same (command.Map mapping name off len direction mask) c.command (sym its ∙ c.its) ∙ look.is) in

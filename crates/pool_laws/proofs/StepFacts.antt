@@ -1,6 +1,6 @@
 -- The steps of commands: a look in an area, or a step that looks in none.
-use Rattle.std.proofs.Common.{◌≡◌, ◌⊎◌, ℕ, ◌+◌, ◌*◌, ◌-◌, ◌/◌, ◌<◌, ◌≤◌, Bool, true, false, not, ◌&&◌, Option, None, Some, List, [], ◌∷◌, ◌++◌, refl, ◌∙◌, ap, subst, inl, inr, arith}
-use Rattle.std.specs.Prelude.{◌==◌, nat_lt, IfSome, is_some, is_none, slice_get, unwrap_or, length}
+use Rattle.std.proofs.Common.{◌≡◌, ◌⊎◌, ℕ, ◌+◌, ◌*◌, ◌-◌, ◌/◌, ◌<◌, ◌≤◌, Bool, true, false, not, ◌&&◌, Option, None, Some, List, refl, subst, inl, inr, arith}
+use Rattle.std.specs.Prelude.{◌==◌, nat_lt, IfSome, is_some, is_none, length}
 use Rattle.std.specs.Option.{option_and_then, option_map}
 use Rattle.std.proofs.lemmas.Bool.{cases_lt, eq-eqb, both_ways}
 use Rattle.guest_base.specs.declared.limits.TheConstants.{PAGE_BYTES, SLOT_BYTES}
@@ -32,17 +32,27 @@ use Rattle.event_core.specs.Calls.{calls_in}
 use Rattle.event_core.specs.Claims.{Claimed, claim_of, in_the_way}
 use Rattle.event_core.specs.ConvertRows.{convert_end}
 use Rattle.event_core.specs.Holdings.{Sharing, PrivateBlock, SharedBlock, HalfBlock, Holding, Own, block_named, mapping_named, block_bytes, asks_in, asks_out}
-use Rattle.event_core.specs.Legal.{Follows, LegalAfter, with_bytes, moved_after, at_place}
+use Rattle.event_core.specs.Legal.{Follows, at_place}
 use Rattle.event_core.specs.MemoryRows.{claim_event, run_of_claim, next_run, cleared_by}
 use Rattle.event_core.specs.Moved.{Moved, entries_of, made_by}
 use Rattle.event_core.specs.Next.{Step, step_of, unrefused_step, refused_or, replied_by, accept_step, alloc_step, alloc_reply, stopped_reply, claim_reply, report_reply, convert_step, end_reply, load_step, stray_step, look_step, copy_step}
-use Rattle.event_core.specs.Own.{own_of, script_of, present, replied}
+use Rattle.event_core.specs.Own.{own_of, script_of}
 use Rattle.event_core.specs.OwnRows.{is_inside, strayed_bytes, page_behind, found_at}
 use Rattle.event_core.specs.Refusals.{refuse, refusal_of, map_refusal, unknown_or, unless_private}
 use Rattle.event_core.specs.Units.{guarded_units}
-use Rattle.pool_laws.proofs.RefusalFacts.{NotFull, IsNotFull, refusal-other}
+use Rattle.event_core.proofs.CommandLemmas.{command-of, step_told}
+use Rattle.event_core.proofs.RefusalLemmas.{IsRefusal, AreRefusals, refusal-is}
 
 -- ---- steps that look in no area
+
+-- a reply isn't full
+abbrev pub NotFull : Option Reply → Type 0
+NotFull (Some reply.Full) = ⊥
+NotFull _ = Unit {0}
+
+refusal-other : (r : Reply) → IsRefusal r → NotFull (Some r)
+refusal-other reply.Full is = absurd is
+refusal-other _ is = tt
 
 abbrev pub NoLook : Event → Type 0
 NoLook (event.Looked area run) = ⊥
@@ -62,9 +72,9 @@ none-made = record { each = tt }
 made : (e : Event) (r : Option Reply) → NoLook e → NotFull r → ArePlain (Some (record { event = e; reply = r }))
 made e r is not = record { each = record { event = is; reply = not } }
 
-refused : (refusal : Option Reply) (step : Option Step) → IsNotFull refusal → ArePlain step → ArePlain (refused_or refusal step)
+refused : (refusal : Option Reply) (step : Option Step) → AreRefusals refusal → ArePlain step → ArePlain (refused_or refusal step)
 refused None step other is = is
-refused (Some r) step other is = made event.Own (Some r) tt other.not
+refused (Some r) step other is = made event.Own (Some r) tt (refusal-other r other.each)
 
 claim-other : (run : Option Units) → NotFull (claim_reply run)
 claim-other None = tt
@@ -240,7 +250,7 @@ abbrev pub IsKnown : Boot → ℕ → Own → List Moved → Command → Step �
 IsKnown boot cpu own there c s = (IsPlainStep s) ⊎ (IsLook boot cpu own there c s)
 
 other-made : (boot : Boot) (cpu : ℕ) (own : Own) (there : List Moved) (c : Command) (calls : List ModuleCall) (s : Step) → IsNoMap c → step_of boot cpu own there c calls ≡ Some s → IsKnown boot cpu own there c s
-other-made boot cpu own there c calls s unmapped is = inl (subst (λ o. ArePlain o) is (refused (refusal_of boot own c) (unrefused_step boot cpu own there c calls) (refusal-other boot own c) (unrefused-made boot cpu own there c calls unmapped))).each
+other-made boot cpu own there c calls s unmapped is = inl (subst (λ o. ArePlain o) is (refused (refusal_of boot own c) (unrefused_step boot cpu own there c calls) (refusal-is boot own c) (unrefused-made boot cpu own there c calls unmapped))).each
 
 pub step-known : (boot : Boot) (cpu : ℕ) (own : Own) (there : List Moved) (c : Command) (calls : List ModuleCall) (s : Step) → step_of boot cpu own there c calls ≡ Some s → IsKnown boot cpu own there c s
 step-known boot cpu own there (command.Map mapping name off len direction mask) calls s is = map-made boot cpu own there mapping name off len direction mask s (is_some (mapping_named own mapping)) (block_named own name) refl is
@@ -260,44 +270,13 @@ need-holds addr len mask = need-of-holds (offset_of addr mask + len) where
 
 -- ---- the command of an entry
 
--- what an entry says of the step that made it
-abbrev pub step_told : Entry → Step
-step_told entry = record { event = entry.event; reply = entry.reply }
-
-and-then-some : {A B : Type 0} (f : A → Option B) (o : Option A) (b : B) → option_and_then f o ≡ Some b → (a : A) × (o ≡ Some a) × (f a ≡ Some b)
-and-then-some f None b is = cc
-and-then-some f (Some a) b is = (a, refl, is)
-
-in-script : (script : Option (List Command)) (n : ℕ) → slice_get (unwrap_or script []) n ≡ option_and_then (λ commands. slice_get commands n) script
-in-script None n = refl
-in-script (Some commands) n = refl
-
-pub some-same : {A : Type 0} (a b : A) → Some a ≡ Some b → a ≡ b
-some-same a b is = cc
-
 -- what a processor has after a history
 abbrev pub own_after : List (List Command) → List Moved → ℕ → Own
 own_after scripts history cpu = own_of (script_of scripts cpu) (made_by cpu history)
 
--- The command of an entry that follows a history, and its step.
-pub record CommandOf (boot : Boot) (scripts : List (List Command)) (history : List Moved) (entry : Entry) : Type 0 where
-  pub command : Command
-  pub its : slice_get (script_of scripts entry.cpu.0) entry.cmd ≡ Some command
-  pub known : IsKnown boot entry.cpu.0 (own_after scripts history entry.cpu.0) (at_place entry.place history) command (step_told entry)
-
-pub command-of : (boot : Boot) (scripts : List (List Command)) (history : List Moved) (entry : Entry) → Follows boot scripts history entry → CommandOf boot scripts history entry
-command-of boot scripts history entry f =
-    let own = made_by entry.cpu.0 history in
-    let found =
-    and-then-some (λ c. step_of boot entry.cpu.0 (own_of (script_of scripts entry.cpu.0) own) (at_place entry.place history) c (calls_in entry.event)) (present scripts entry.cpu.0 own) (step_told entry) f.over.step
-    in
-    record {
-      command = found.0;
-      its = ap (slice_get (script_of scripts entry.cpu.0)) f.over.number ∙ in-script (slice_get scripts entry.cpu.0) (replied own) ∙ found.1;
-      known = step-known boot entry.cpu.0 (own_of (script_of scripts entry.cpu.0) own) (at_place entry.place history) found.0 (calls_in entry.event) (step_told entry) found.2;
-    }
-
--- each entry of a legal history follows those before it
-pub follows-at : (boot : Boot) (scripts : List (List Command)) (history : List Moved) (before : List Entry) (entry : Entry) (later : List Entry) → LegalAfter boot scripts history (before ++ entry ∷ later) → Follows boot scripts (moved_after boot scripts history before) entry
-follows-at boot scripts history [] entry later legal = legal.0
-follows-at boot scripts history (e ∷ before) entry later legal = follows-at boot scripts (history ++ with_bytes boot scripts history e ∷ []) before entry later legal.2
+-- the step of an entry's command is one of these
+pub known-of : (boot : Boot) (scripts : List (List Command)) (history : List Moved) (entry : Entry) (f : Follows boot scripts history entry)
+    → IsKnown boot entry.cpu.0 (own_after scripts history entry.cpu.0) (at_place entry.place history) (command-of boot scripts history entry f).command (step_told entry)
+known-of boot scripts history entry f =
+    let c = command-of boot scripts history entry f in
+    step-known boot entry.cpu.0 (own_after scripts history entry.cpu.0) (at_place entry.place history) c.command (calls_in entry.event) (step_told entry) c.step

@@ -37,7 +37,7 @@ returns-clause-done g c =
         c.in_ok-span.ensures.made,
         ended-by c.keep_calls.result (AcceptsPiece c.args.boot.now made c.args.pages) out.calls (stopped_at out.end)
             (piece-accepts c.args.boot.now made out.calls c.args.kept.now c.work.new.table c.put.new.self c.args.pages out.span (stopped_at out.end) c.requires.stands c.in_ok-span.ensures.accepted back (sym c.in_ok-span.ensures.end))
-            c.keep_calls.ensures.whole c.keep_calls.ensures.stopped,
+            c.keep_calls.ensures.whole c.keep_calls.ensures.stopped c.keep_calls.ensures.placed,
       );
       stands = on_ok_weaker c.keep_calls.result
           (λ calls.

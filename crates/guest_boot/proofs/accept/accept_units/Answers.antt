@@ -54,7 +54,7 @@ returns-clause-done g c =
         c.in_ok-span.ensures.made,
         ended-by c.keep_calls.result (AcceptsRun boot made c.args.run) out.calls (stopped_at out.end)
             (run-made boot made out.calls c.args.kept.now c.work.new.table c.put.new.self c.clear_run.new.bits c.args.run c.run_pages-pages.result out.span c.clear_run.result (stopped_at out.end) did (sym c.in_ok-span.ensures.end))
-            c.keep_calls.ensures.whole c.keep_calls.ensures.stopped,
+            c.keep_calls.ensures.whole c.keep_calls.ensures.stopped c.keep_calls.ensures.placed,
       );
       stands = on_ok_weaker c.keep_calls.result
           (λ calls.

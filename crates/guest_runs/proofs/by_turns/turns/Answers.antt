@@ -6,7 +6,7 @@ use Rattle.guest_base.specs.declared.memory.CpuNo.{CpuNo as CpuValue}
 use Rattle.guest_cpu.specs.Standing.{CpuStands, seen_by}
 use Rattle.event_core.specs.declared.boot.Boot.{Boot}
 use Rattle.guest_steps.specs.Running.{AllStand}
-use Rattle.guest_runs.proofs.BeginLemmas.{begin-first, begin-stand}
+use Rattle.guest_runs.proofs.BeginLemmas.{begin-first, begin-stand, ground_in, world-layout}
 use Rattle.guest_runs.proofs.RunLemmas.{halts-first, kept-first, on-err, turns-have-run}
 use Rattle.guest_runs.proofs.by_turns.turns.Goals as goal
 
@@ -16,6 +16,9 @@ returns-in_err-left-clause-halted g c =
 
 pub returns-in_err-left-clause-kept : goal.returns-in_err-left-clause-kept
 returns-in_err-left-clause-kept g c = kept-first g.P.Port.made g.P.Port.faults g.P.Port.never_fails (length c.args.scripts) c.args.ports.now.items c.args.ports.now.items refl
+
+pub start_all-requires-clause-pool : goal.start_all-requires-clause-pool
+start_all-requires-clause-pool g c = world-layout c.args.world c.requires.begins.stands
 
 pub returns-in_err-all-clause-halted : goal.returns-in_err-all-clause-halted
 returns-in_err-all-clause-halted g c =
@@ -35,7 +38,7 @@ turns-answer-requires-clause-stand g c κs within =
     let seen = seen_by g.P.Port.made g.P.Port.faults in
     let stands = CpuStands g.P.Port.made g.P.Port.faults g.P.Port.room in
     let count : length all ≡ length c.args.scripts = search rules in
-    let S : Boot → Type 0 = λ b. AllStand seen stands b all world.memory in
+    let S : Boot → Type 0 = λ b. AllStand seen stands b all (ground_in world) in
     subst S (sym c.requires.begins.stands.same) (begin-stand g.P.Port.made g.P.Port.faults seen stands world c.args.scripts c.args.ports.now.items _ all c.requires.begins e.seen count e.stand)
 
 pub turns-answer-requires-clause-first : goal.turns-answer-requires-clause-first
@@ -54,7 +57,7 @@ close-requires-clause-run g c =
     let order : List ℕ = map (λ (cpu : CpuValue). cpu.0) c.args.order.now in
     let count : length c.in_ok-all.all.items ≡ length c.args.scripts = search rules in
     let run = turns-have-run g.P.Port.made g.P.Port.faults g.P.Port.never_fails c.args.world c.args.scripts c.args.ports.now.items c.start_all.new.ports.items c.in_ok-all.all.items c.turns-answer.new.processors.items c.requires.begins c.in_ok-all.ensures.ports c.in_ok-all.ensures.seen count t.later
-    order c.turns-answer.result c.turns-answer.new.memory c.and.result t.stand.together t.finished t.turned c.and.ensures in
+    order c.turns-answer.result (c.turns-answer.new.memory, c.turns-answer.new.areas) c.and.result t.stand.together t.finished t.turned c.and.ensures in
     (c.args.world, c.args.scripts, Some order, c.args.ports.now.items, refl, run)
 
 pub returns : goal.returns
@@ -63,6 +66,6 @@ returns g c =
     let order : List ℕ = map (λ (cpu : CpuValue). cpu.0) c.args.order.now in
     let count : length c.in_ok-all.all.items ≡ length c.args.scripts = search rules in
     let run = turns-have-run g.P.Port.made g.P.Port.faults g.P.Port.never_fails c.args.world c.args.scripts c.args.ports.now.items c.start_all.new.ports.items c.in_ok-all.all.items c.turns-answer.new.processors.items c.requires.begins c.in_ok-all.ensures.ports c.in_ok-all.ensures.seen count t.later
-    order c.turns-answer.result c.turns-answer.new.memory c.and.result t.stand.together t.finished t.turned c.and.ensures in
+    order c.turns-answer.result (c.turns-answer.new.memory, c.turns-answer.new.areas) c.and.result t.stand.together t.finished t.turned c.and.ensures in
     let told = c.close.ensures c.args.world c.args.scripts (Some order) c.args.ports.now.items refl run in
     record { boot = told.boot_is; scripts = told.scripts_are; run = told.run; final_runs = told.final_runs; halted = told.halted; kept = told.kept }

@@ -1,6 +1,6 @@
 use Rattle.std.proofs.Common.{rules, ◌≡◌, ◌++◌, [], ◌∷◌, sym, ◌∙◌, ap, subst, length, map, vec_len, arith, append_assoc, ◌+◌, ◌≤◌, All, reverse}
 use Rattle.std.proofs.lemmas.List.{length_push}
-use Rattle.memory_core.specs.Value.{MemoryValue}
+use Rattle.guest_steps.specs.Ground.{Ground}
 use Rattle.guest_cpu.specs.Standing.{CpuStands, seen_by}
 use Rattle.guest_steps.specs.Standing.{Stands}
 use Rattle.guest_runs.specs.OnPorts.{first_on, ports_of}
@@ -39,6 +39,6 @@ loop-script-preserved g c =
       ports_count = omega (arith, ports_less, length_more, ports_count);
       seen = subst (λ xs. map (seen_by made faults) xs ≡ first_on made faults c.args.boot.now 0 (yielded ++ script ∷ []) (ports_of xs)) (sym pushed.items)
           (first-more made faults c.args.boot.now yielded script all c.new.result c.take_last-port.result c.len-in-loop-script.result i.seen long number c.new.ensures.port c.new.ensures.seen);
-      stand = all-push (λ c. (memory : MemoryValue) → Stands (seen_by made faults c) memory → CpuStands made faults g.P.Port.room c memory) all c.push_reserved.new.self.items c.new.result i.stand c.new.ensures.stands pushed.items;
+      stand = all-push (λ c. (base : Ground) → Stands (seen_by made faults c) base → CpuStands made faults g.P.Port.room c base) all c.push_reserved.new.self.items c.new.result i.stand c.new.ensures.stands pushed.items;
       port_room = subst (λ n. vec_len c.args.ports.now ≤ n) (sym ports.capacity) i.port_room;
     }

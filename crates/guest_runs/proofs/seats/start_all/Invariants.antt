@@ -1,5 +1,5 @@
 use Rattle.std.proofs.Common.{◌≡◌, ◌++◌, ◌+◌, ◌≤◌, All, length, map, reverse, vec_len, vec_capacity}
-use Rattle.memory_core.specs.Value.{MemoryValue}
+use Rattle.guest_steps.specs.Ground.{Ground}
 use Rattle.guest_steps.specs.Standing.{Stands}
 use Rattle.guest_cpu.specs.Standing.{CpuStands, seen_by}
 use Rattle.guest_runs.specs.OnPorts.{first_on, ports_of}
@@ -15,6 +15,6 @@ invariant-loop-script g l = record {
   ports : l.fn.ports.items ≡ ports_of l.all.items ++ reverse l.ports.items;
   ports_count : vec_len l.ports + vec_len l.all ≡ vec_len l.fn.ports;
   seen : map (seen_by g.P.Port.made g.P.Port.faults) l.all.items ≡ first_on g.P.Port.made g.P.Port.faults l.fn.boot 0 l.yielded (ports_of l.all.items);
-  stand : All (λ c. (memory : MemoryValue) → Stands (seen_by g.P.Port.made g.P.Port.faults c) memory → CpuStands g.P.Port.made g.P.Port.faults g.P.Port.room c memory) l.all.items;
+  stand : All (λ c. (base : Ground) → Stands (seen_by g.P.Port.made g.P.Port.faults c) base → CpuStands g.P.Port.made g.P.Port.faults g.P.Port.room c base) l.all.items;
   port_room : vec_len l.fn.ports ≤ vec_capacity l.ports;
 }

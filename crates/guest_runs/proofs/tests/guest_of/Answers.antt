@@ -1,4 +1,4 @@
-use Rattle.std.proofs.Common.{◌≡◌, ◌<◌, None, List, [], ◌∷◌, sym, ◌∙◌, arith, length, length-set}
+use Rattle.std.proofs.Common.{◌≡◌, ◌<◌, None, List, [], ◌∷◌, refl, sym, ◌∙◌, arith, length, length-set}
 use Rattle.std.specs.Prelude.{All, slice_set}
 use Rattle.std.proofs.lemmas.List.Elements.{All-tail}
 use Rattle.event_core.specs.declared.module_call.ModuleCall.{ModuleCall}
@@ -14,6 +14,9 @@ first-made made (p ∷ ports) port calls some is = is
 others-unmade : {P : Type 0} (made : P → List ModuleCall) (ports : List P) (port : P) → All (λ p. made p ≡ []) ports → OthersUnmade made (slice_set ports 0 port)
 others-unmade made [] port unmade = unmade
 others-unmade made (p ∷ ports) port unmade = All-tail (λ p. made p ≡ []) p ports unmade
+
+pub boot-requires-clause-asked : goal.boot-requires-clause-asked
+boot-requires-clause-asked c = record { few_slots = omega arith; few_areas = omega arith; power = (0, refl) }
 
 pub returns-in-Ok : goal.returns-in-Ok
 returns-in-Ok c scripts count runnable =

@@ -1,5 +1,5 @@
-use Rattle.guest_steps.proofs.StampLemmas.{stamp-before-small}
+use Rattle.guest_steps.proofs.StampLemmas.{stamps-small}
 use Rattle.guest_steps.proofs.laws.stamps_stay_small.Goals as goal
 
 pub returns : goal.returns
-returns c = stamp-before-small
+returns c = stamps-small

@@ -19,11 +19,11 @@ loop-preserved g c =
 pub returns-in-Ended-clause-ran : goal.returns-in-Ended-clause-ran
 returns-in-Ended-clause-ran g c =
     ended-ran g.T.Processor.seen g.T.Processor.stands g.T.Processor.never_fails (g.met.T.Processor g.world.𝓛 g.world.𝓜 g.world.𝓡 ((λ s x. x), (λ x. x), (λ x. x), λ x. x)).told
-    c.args.lock.now c.in-Ended.driven.pass c.args.processor.now c.next_step.new.processor c.in-Ended.driven.answer
+    c.args.locks.now c.in-Ended.driven.passes c.args.processor.now c.next_step.new.processor c.in-Ended.driven.answer
     (same-then g.T.Processor.seen g.T.Processor.never_fails c.args.processor.now c.loop.processor c.next_step.new.processor c.loop.invariant.same c.in-Ended.ensures.0)
     c.in-Ended.ensures.1 c.in-Ended.ensures.2
 
 pub returns-in-Ended-clause-follows : goal.returns-in-Ended-clause-follows
 returns-in-Ended-clause-follows g c =
     seated-follows g.T.Processor.seen g.T.Processor.stands g.T.Processor.never_fails (g.met.T.Processor g.world.𝓛 g.world.𝓜 g.world.𝓡 ((λ s x. x), (λ x. x), (λ x. x), λ x. x)).told
-    c.args.lock.now c.in-Ended.driven.pass c.next_step.new.processor c.in-Ended.ensures.1
+    c.args.locks.now c.in-Ended.driven.passes c.next_step.new.processor c.in-Ended.ensures.1

@@ -6,5 +6,5 @@ abbrev pub invariant-loop : goal.invariant-loop
 invariant-loop g l =
     record {
       same : IsSame g.T.Processor.seen g.T.Processor.never_fails l.initial.processor l.processor;
-      seated : Seated g.T.Processor.seen g.T.Processor.stands l.lock l.pass l.processor;
+      seated : Seated g.T.Processor.seen g.T.Processor.stands l.fn.locks l.passes l.processor;
     }

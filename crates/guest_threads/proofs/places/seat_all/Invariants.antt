@@ -2,8 +2,8 @@ use Rattle.std.proofs.Common.{◌≡◌, ◌++◌, ◌≤◌, ◌+◌, Some, len
 use Rattle.guest_threads.specs.Places.{passes_at, processors_at}
 use Rattle.guest_threads.proofs.places.seat_all.Given as goal
 
-abbrev pub invariant-loop-pass : goal.invariant-loop-pass
-invariant-loop-pass g l =
+abbrev pub invariant-loop-mine : goal.invariant-loop-mine
+invariant-loop-mine g l =
     record {
       count : length l.processors.items ≡ length l.passes.items;
       held : l.initial.processors.items ≡ l.processors.items ++ processors_at l.places.items;
@@ -13,5 +13,5 @@ invariant-loop-pass g l =
       pass_room : vec_capacity l.passes ≡ vec_capacity l.initial.passes;
     }
 
-abbrev pub decreases-loop-pass : goal.decreases-loop-pass
-decreases-loop-pass g l = length l.passes.items
+abbrev pub decreases-loop-mine : goal.decreases-loop-mine
+decreases-loop-mine g l = length l.passes.items

@@ -1,10 +1,11 @@
 use Rattle.std.proofs.Common.{map, take}
 use Rattle.guest_base.specs.declared.memory.CpuNo.{CpuNo}
+use Rattle.guest_steps.specs.Ground.{ground_of}
 use Rattle.guest_turns.specs.Walks.{GoOn, WalksOn}
 use Rattle.guest_turns.proofs.run.in_order.Given as goal
 
 abbrev pub invariant-loop-cpu : goal.invariant-loop-cpu
 invariant-loop-cpu g l = record {
-  go_on : GoOn g.T.Processor.seen g.T.Processor.stands g.T.Processor.never_fails l.fn.processors.items l.processors.items l.fn.memory l.memory;
-  walk : WalksOn (map (λ (cpu : CpuNo). cpu.0) (take l.cpu-index l.fn.order)) (map g.T.Processor.seen l.fn.processors.items) (map g.T.Processor.seen l.processors.items) l.fn.memory l.memory;
+  go_on : GoOn g.T.Processor.seen g.T.Processor.stands g.T.Processor.never_fails l.fn.processors.items l.processors.items (ground_of l.fn.memory l.fn.areas.items) (ground_of l.memory l.areas.items);
+  walk : WalksOn (map (λ (cpu : CpuNo). cpu.0) (take l.cpu-index l.fn.order)) (map g.T.Processor.seen l.fn.processors.items) (map g.T.Processor.seen l.processors.items) (ground_of l.fn.memory l.fn.areas.items) (ground_of l.memory l.areas.items);
 }

@@ -1,6 +1,7 @@
 use Rattle.std.proofs.Common.{◌≡◌, ◌∷◌, [], map, length, sym, subst, arith}
 use Rattle.std.proofs.lemmas.List.{length-map}
 use Rattle.event_core.specs.Turns.{numbers_from}
+use Rattle.guest_steps.specs.Ground.{ground_of}
 use Rattle.guest_turns.specs.Walks.{WalksOn}
 use Rattle.guest_turns.proofs.GoOnLemmas.{go_on-length, go_on-then, walks-then}
 use Rattle.guest_turns.proofs.RoundLemmas.{numbers-next, round-less, so_far-push}
@@ -12,16 +13,16 @@ loop-cpu-preserved g c =
     let old = c.args.processors.now.items in
     let mid = c.loop-cpu.processors.items in
     let new = c.turn.new.processors.items in
-    let before = c.args.memory.now in
-    let between = c.loop-cpu.memory in
-    let after = c.turn.new.memory in
+    let before = ground_of c.args.memory.now c.args.areas.now.items in
+    let between = ground_of c.loop-cpu.memory c.loop-cpu.areas.items in
+    let after = ground_of c.turn.new.memory c.turn.new.areas.items in
     let inv = c.loop-cpu.invariant in
     let e = c.in_ok-turn.ensures in
     let cpu = c.loop-cpu.cpu in
     record {
       go_on = go_on-then seen g.T.Processor.stands g.T.Processor.never_fails old mid new before between after inv.go_on e.go_on;
       walk = subst (λ turns. WalksOn turns (map seen old) (map seen new) before after) (sym (numbers-next cpu))
-          (walks-then (numbers_from 0 cpu) (cpu ∷ []) (map seen old) (map seen mid) (map seen new) before between after inv.go_on.stand.together.same inv.walk e.walk);
+          (walks-then (numbers_from 0 cpu) (cpu ∷ []) (map seen old) (map seen mid) (map seen new) before between after inv.go_on.stand.together.same.memory inv.walk e.walk);
       so_far = so_far-push c.in_ok-turn.field-0 c.turn.result cpu (map seen old) (map seen mid) (map seen new) before between after c.in_ok-turn.was c.turn.ensures.event c.turn.ensures.none inv.so_far;
     }
 
@@ -31,7 +32,9 @@ returns-clause-less g c =
     let old = c.args.processors.now.items in
     let new = c.loop-cpu.processors.items in
     let inv = c.loop-cpu.invariant in
-    let same = go_on-length seen g.T.Processor.stands g.T.Processor.never_fails old new c.args.memory.now c.loop-cpu.memory c.requires.stand inv.go_on in
+    let before = ground_of c.args.memory.now c.args.areas.now.items in
+    let after = ground_of c.loop-cpu.memory c.loop-cpu.areas.items in
+    let same = go_on-length seen g.T.Processor.stands g.T.Processor.never_fails old new before after c.requires.stand inv.go_on in
     let all = length-map new seen in
     let cpus : length (map seen new) ≡ c.loop-cpu.cpu = omega (arith, same, all) in
-    round-less c.args.memory.now.boot (map seen old) (map seen new) c.args.memory.now c.loop-cpu.memory c.loop-cpu.cpu inv.go_on.stand.together cpus inv.so_far
+    round-less c.args.memory.now.boot (map seen old) (map seen new) before after c.loop-cpu.cpu c.requires.stand.together inv.go_on.stand.together cpus inv.so_far

@@ -2,7 +2,8 @@ use Rattle.std.proofs.Common.{◌<◌, refl, sym, subst, map}
 use Rattle.std.specs.Prelude.{OnOk, [], ◌∷◌}
 use Rattle.std.proofs.lemmas.List.{map-set}
 use Rattle.std.proofs.lemmas.Option.{slice_get_read}
-use Rattle.guest_steps.proofs.StampLemmas.{stamp-before-small}
+use Rattle.guest_steps.specs.Ground.{ground_of}
+use Rattle.guest_steps.proofs.StampLemmas.{stamps-small}
 use Rattle.guest_turns.specs.Walks.{RestsAt, WalksOn, all_left}
 use Rattle.guest_turns.proofs.StandLemmas.{event-leaves, rest-is, seen-at, turn-goes_on, turn-of, turn-walks}
 use Rattle.guest_turns.proofs.turn.turn.Goals as goal
@@ -13,7 +14,9 @@ one_turn-requires-clause-stamps g c κs w =
     let all = c.args.processors.now.items in
     let was = c.index_mut.result.now in
     let at = slice_get_read all _ c.args.cpu was refl c.requires.cpu c.index_mut.ensures.value in
-    stamp-before-small c.args.memory.now.boot (map seen all) c.args.memory.now c.args.cpu (seen was) c.requires.stand.together (seen-at seen all c.args.cpu was at)
+    let base = ground_of c.args.memory.now c.args.areas.now.items in
+    let left = stamps-small c.args.memory.now.boot (map seen all) base c.args.cpu (seen was) c.requires.stand.together (seen-at seen all c.args.cpu was at) in
+    record { memory = left.0; areas = left.1 }
 
 pub returns-clause-go_on : goal.returns-clause-go_on
 returns-clause-go_on g c =
@@ -22,8 +25,8 @@ returns-clause-go_on g c =
     let all = c.args.processors.now.items in
     let was = c.index_mut.result.now in
     let now = c.one_turn.new.processor in
-    let before = c.args.memory.now in
-    let after = c.one_turn.new.memory in
+    let before = ground_of c.args.memory.now c.args.areas.now.items in
+    let after = ground_of c.one_turn.new.memory c.one_turn.new.areas.items in
     let at = slice_get_read all _ c.args.cpu was refl c.requires.cpu c.index_mut.ensures.value in
     let e = c.one_turn.ensures in
     turn-goes_on seen g.T.Processor.stands g.T.Processor.never_fails laws.told laws.left_standing all c.args.cpu was now before after c.requires.stand at e.stand e.later
@@ -36,8 +39,8 @@ returns-clause-walk g c =
     let all = c.args.processors.now.items in
     let was = c.index_mut.result.now in
     let now = c.one_turn.new.processor in
-    let before = c.args.memory.now in
-    let after = c.one_turn.new.memory in
+    let before = ground_of c.args.memory.now c.args.areas.now.items in
+    let after = ground_of c.one_turn.new.memory c.one_turn.new.areas.items in
     let at = slice_get_read all _ c.args.cpu was refl c.requires.cpu c.index_mut.ensures.value in
     let e = c.one_turn.ensures in
     subst (λ new. OnOk c.one_turn.result (WalksOn (c.args.cpu ∷ []) (map seen all) new before after)) (sym (map-set seen all c.args.cpu now))
@@ -50,8 +53,10 @@ returns-clause-event g c is =
     let was = c.index_mut.result.now in
     let now = c.one_turn.new.processor in
     let at = slice_get_read all _ c.args.cpu was refl c.requires.cpu c.index_mut.ensures.value in
-    subst (λ new. all_left new c.one_turn.new.memory < all_left (map seen all) c.args.memory.now) (sym (map-set seen all c.args.cpu now))
-    (event-leaves (map seen all) c.args.cpu (seen was) (seen now) c.args.memory.now c.one_turn.new.memory (seen-at seen all c.args.cpu was at) (c.one_turn.ensures.event is))
+    let before = ground_of c.args.memory.now c.args.areas.now.items in
+    let after = ground_of c.one_turn.new.memory c.one_turn.new.areas.items in
+    subst (λ new. all_left new after < all_left (map seen all) before) (sym (map-set seen all c.args.cpu now))
+    (event-leaves (map seen all) c.args.cpu (seen was) (seen now) before after (seen-at seen all c.args.cpu was at) (c.one_turn.ensures.event is))
 
 pub returns-clause-none : goal.returns-clause-none
 returns-clause-none g c is =
@@ -61,5 +66,7 @@ returns-clause-none g c is =
     let now = c.one_turn.new.processor in
     let at = slice_get_read all _ c.args.cpu was refl c.requires.cpu c.index_mut.ensures.value in
     let none = c.one_turn.ensures.none is in
-    subst (λ new. RestsAt c.args.cpu (map seen all) new c.args.memory.now c.one_turn.new.memory) (sym (map-set seen all c.args.cpu now))
-    (rest-is (map seen all) c.args.cpu (seen was) (seen now) c.args.memory.now c.one_turn.new.memory (seen-at seen all c.args.cpu was at) none.0 none.1)
+    let before = ground_of c.args.memory.now c.args.areas.now.items in
+    let after = ground_of c.one_turn.new.memory c.one_turn.new.areas.items in
+    subst (λ new. RestsAt c.args.cpu (map seen all) new before after) (sym (map-set seen all c.args.cpu now))
+    (rest-is (map seen all) c.args.cpu (seen was) (seen now) before after (seen-at seen all c.args.cpu was at) none.0 none.1)

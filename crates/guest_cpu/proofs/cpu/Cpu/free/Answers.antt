@@ -1,35 +1,25 @@
 use Rattle.event_core.specs.declared.command.Command.TheVariants as command
-use Rattle.guest_cpu.proofs.MayLemmas.{may-all}
-use Rattle.guest_cpu.proofs.MemoryLemmas.{free-all, owns-taken}
+use Rattle.guest_cpu.proofs.LeavesLemmas.{free-leaves, may-taken, owns-block, unmade-leaves}
 use Rattle.guest_cpu.proofs.cpu.Cpu.free.Goals as goal
 
 pub free-requires-clause-may : goal.free-requires-clause-may
 free-requires-clause-may g c =
-    let cpu = c.args.self.now in
     let e = c.take_entry_room.ensures in
-    may-all (g.P.Port.made cpu.port_before.value) (g.P.Port.made cpu.port) (g.P.Port.faults cpu.port_before.value) (g.P.Port.faults cpu.port) (g.P.Port.room cpu.port) cpu.progress c.take_entry_room.new.progress c.args.memory.now c.take_entry_room.new.memory
-    (command.Free c.args.name) c.requires.stands e.progress e.memory c.requires.steps
+    may-taken g.P.Port.made g.P.Port.faults g.P.Port.room c.args.self.now c.take_entry_room.new.progress c.args.memory.now c.take_entry_room.new.memory c.requires.stands e.progress e.memory (command.Free c.args.name) c.requires.steps
 
 pub free-requires-clause-owner : goal.free-requires-clause-owner
 free-requires-clause-owner g c =
-    let cpu = c.args.self.now in
     let e = c.take_entry_room.ensures in
-    owns-taken (g.P.Port.made cpu.port_before.value) (g.P.Port.made cpu.port) (g.P.Port.faults cpu.port_before.value) (g.P.Port.faults cpu.port) cpu.progress c.take_entry_room.new.progress (g.P.Port.room cpu.port) c.args.memory.now c.take_entry_room.new.memory c.requires.stands e.progress e.memory _
+    owns-block g.P.Port.made g.P.Port.faults g.P.Port.room c.args.self.now c.take_entry_room.new.progress c.args.memory.now c.take_entry_room.new.memory c.requires.stands e.progress e.memory c.args.name
 
-pub returns-clause-stands : goal.returns-clause-stands
-returns-clause-stands g c =
-    let cpu = c.args.self.now in
+pub returns-clause-leaves : goal.returns-clause-leaves
+returns-clause-leaves g c =
     let e = c.take_entry_room.ensures in
-    let all = free-all (g.P.Port.made cpu.port_before.value) (g.P.Port.made cpu.port) (g.P.Port.faults cpu.port_before.value) (g.P.Port.faults cpu.port)
-    cpu.progress c.take_entry_room.new.progress c.free.new.self (g.P.Port.room cpu.port) c.args.memory.now c.take_entry_room.new.memory c.free.new.memory
-    c.requires.stands e.progress e.memory c.free.ensures.same c.args.name c.requires.steps c.free.ensures.frees in
-    all.stands
+    let stepped = c.free.ensures in
+    free-leaves g.P.Port.made g.P.Port.faults g.P.Port.room c.args.self.now c.take_entry_room.new.progress c.args.memory.now c.take_entry_room.new.memory c.requires.stands e.progress e.memory
+    c.free.new.self c.free.new.memory stepped.same c.args.name c.requires.steps stepped.frees
 
-pub returns-clause-event : goal.returns-clause-event
-returns-clause-event g c =
-    let cpu = c.args.self.now in
+pub returns-in_err-take_entry_room-clause-leaves : goal.returns-in_err-take_entry_room-clause-leaves
+returns-in_err-take_entry_room-clause-leaves g c =
     let e = c.take_entry_room.ensures in
-    let all = free-all (g.P.Port.made cpu.port_before.value) (g.P.Port.made cpu.port) (g.P.Port.faults cpu.port_before.value) (g.P.Port.faults cpu.port)
-    cpu.progress c.take_entry_room.new.progress c.free.new.self (g.P.Port.room cpu.port) c.args.memory.now c.take_entry_room.new.memory c.free.new.memory
-    c.requires.stands e.progress e.memory c.free.ensures.same c.args.name c.requires.steps c.free.ensures.frees in
-    all.makes
+    unmade-leaves g.P.Port.made g.P.Port.faults g.P.Port.room c.args.self.now c.take_entry_room.new.progress c.args.memory.now c.take_entry_room.new.memory c.requires.stands e.progress e.memory c.from_residual.result c.from_residual.ensures.0

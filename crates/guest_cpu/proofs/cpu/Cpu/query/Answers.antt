@@ -1,29 +1,20 @@
 use Rattle.event_core.specs.declared.command.Command.TheVariants as command
-use Rattle.guest_cpu.proofs.MayLemmas.{may-all}
-use Rattle.guest_cpu.proofs.MemoryLemmas.{query-all}
+use Rattle.guest_cpu.proofs.LeavesLemmas.{may-taken, query-leaves, unmade-leaves}
 use Rattle.guest_cpu.proofs.cpu.Cpu.query.Goals as goal
 
 pub query-requires-clause-may : goal.query-requires-clause-may
 query-requires-clause-may g c =
-    let cpu = c.args.self.now in
     let e = c.take_entry_room.ensures in
-    may-all (g.P.Port.made cpu.port_before.value) (g.P.Port.made cpu.port) (g.P.Port.faults cpu.port_before.value) (g.P.Port.faults cpu.port) (g.P.Port.room cpu.port) cpu.progress c.take_entry_room.new.progress c.args.memory.now c.take_entry_room.new.memory
-    (command.Query c.args.start c.args.len) c.requires.stands e.progress e.memory c.requires.steps
+    may-taken g.P.Port.made g.P.Port.faults g.P.Port.room c.args.self.now c.take_entry_room.new.progress c.args.memory.now c.take_entry_room.new.memory c.requires.stands e.progress e.memory (command.Query c.args.start c.args.len) c.requires.steps
 
-pub returns-clause-stands : goal.returns-clause-stands
-returns-clause-stands g c =
-    let cpu = c.args.self.now in
+pub returns-clause-leaves : goal.returns-clause-leaves
+returns-clause-leaves g c =
     let e = c.take_entry_room.ensures in
-    let all = query-all (g.P.Port.made cpu.port_before.value) (g.P.Port.made cpu.port) (g.P.Port.faults cpu.port_before.value) (g.P.Port.faults cpu.port)
-    cpu.progress c.take_entry_room.new.progress c.query.new.self (g.P.Port.room cpu.port) c.args.memory.now c.take_entry_room.new.memory c.query.new.memory
-    c.requires.stands e.progress e.memory c.query.ensures.same c.args.start c.args.len c.requires.steps c.query.ensures.adds in
-    all.stands
+    let stepped = c.query.ensures in
+    query-leaves g.P.Port.made g.P.Port.faults g.P.Port.room c.args.self.now c.take_entry_room.new.progress c.args.memory.now c.take_entry_room.new.memory c.requires.stands e.progress e.memory
+    c.query.new.self c.query.new.memory stepped.same c.args.start c.args.len c.requires.steps stepped.adds
 
-pub returns-clause-event : goal.returns-clause-event
-returns-clause-event g c =
-    let cpu = c.args.self.now in
+pub returns-in_err-take_entry_room-clause-leaves : goal.returns-in_err-take_entry_room-clause-leaves
+returns-in_err-take_entry_room-clause-leaves g c =
     let e = c.take_entry_room.ensures in
-    let all = query-all (g.P.Port.made cpu.port_before.value) (g.P.Port.made cpu.port) (g.P.Port.faults cpu.port_before.value) (g.P.Port.faults cpu.port)
-    cpu.progress c.take_entry_room.new.progress c.query.new.self (g.P.Port.room cpu.port) c.args.memory.now c.take_entry_room.new.memory c.query.new.memory
-    c.requires.stands e.progress e.memory c.query.ensures.same c.args.start c.args.len c.requires.steps c.query.ensures.adds in
-    all.makes
+    unmade-leaves g.P.Port.made g.P.Port.faults g.P.Port.room c.args.self.now c.take_entry_room.new.progress c.args.memory.now c.take_entry_room.new.memory c.requires.stands e.progress e.memory c.from_residual.result c.from_residual.ensures.0

@@ -1,35 +1,30 @@
 use Rattle.event_core.specs.declared.command.Command.TheVariants as command
-use Rattle.guest_cpu.proofs.MayLemmas.{may-all}
-use Rattle.guest_cpu.proofs.MemoryLemmas.{stray-all, owns-taken}
+use Rattle.guest_cpu.proofs.LeavesLemmas.{may-taken, owns-block, stray-leaves, unmade-leaves}
 use Rattle.guest_cpu.proofs.cpu.Cpu.stray.Goals as goal
 
 pub stray-requires-clause-may : goal.stray-requires-clause-may
 stray-requires-clause-may g c =
-    let cpu = c.args.self.now in
     let e = c.take_entry_room.ensures in
-    may-all (g.P.Port.made cpu.port_before.value) (g.P.Port.made cpu.port) (g.P.Port.faults cpu.port_before.value) (g.P.Port.faults cpu.port) (g.P.Port.room cpu.port) cpu.progress c.take_entry_room.new.progress c.args.memory.now c.take_entry_room.new.memory
-    (command.Load c.args.name c.args.off) c.requires.stands e.progress e.memory c.requires.steps
+    may-taken g.P.Port.made g.P.Port.faults g.P.Port.room c.args.self.now c.take_entry_room.new.progress c.args.memory.now c.take_entry_room.new.memory c.requires.stands e.progress e.memory (command.Load c.args.name c.args.off) c.requires.steps
 
 pub stray-requires-clause-owner : goal.stray-requires-clause-owner
 stray-requires-clause-owner g c =
-    let cpu = c.args.self.now in
     let e = c.take_entry_room.ensures in
-    owns-taken (g.P.Port.made cpu.port_before.value) (g.P.Port.made cpu.port) (g.P.Port.faults cpu.port_before.value) (g.P.Port.faults cpu.port) cpu.progress c.take_entry_room.new.progress (g.P.Port.room cpu.port) c.args.memory.now c.take_entry_room.new.memory c.requires.stands e.progress e.memory _
+    owns-block g.P.Port.made g.P.Port.faults g.P.Port.room c.args.self.now c.take_entry_room.new.progress c.args.memory.now c.take_entry_room.new.memory c.requires.stands e.progress e.memory c.args.name
 
-pub returns-clause-stands : goal.returns-clause-stands
-returns-clause-stands g c =
-    let cpu = c.args.self.now in
+pub returns-clause-leaves : goal.returns-clause-leaves
+returns-clause-leaves g c =
     let e = c.take_entry_room.ensures in
-    let all = stray-all (g.P.Port.made cpu.port_before.value) (g.P.Port.made cpu.port) (g.P.Port.faults cpu.port_before.value) (g.P.Port.faults cpu.port)
-    cpu.progress c.take_entry_room.new.progress c.stray.new.self (g.P.Port.room cpu.port) c.args.memory.now c.take_entry_room.new.memory c.stray.new.memory
-    c.requires.stands e.progress e.memory c.stray.ensures.same c.args.name c.args.off c.requires.steps c.stray.ensures.strays in
-    all.stands
+    let stepped = c.stray.ensures in
+    stray-leaves g.P.Port.made g.P.Port.faults g.P.Port.room c.args.self.now c.take_entry_room.new.progress c.args.memory.now c.take_entry_room.new.memory c.requires.stands e.progress e.memory
+    c.stray.new.self c.stray.new.memory stepped.same c.args.name c.args.off c.requires.steps stepped.strays
 
-pub returns-clause-event : goal.returns-clause-event
-returns-clause-event g c =
-    let cpu = c.args.self.now in
+pub returns-in_err-take_entry_room-clause-leaves : goal.returns-in_err-take_entry_room-clause-leaves
+returns-in_err-take_entry_room-clause-leaves g c =
     let e = c.take_entry_room.ensures in
-    let all = stray-all (g.P.Port.made cpu.port_before.value) (g.P.Port.made cpu.port) (g.P.Port.faults cpu.port_before.value) (g.P.Port.faults cpu.port)
-    cpu.progress c.take_entry_room.new.progress c.stray.new.self (g.P.Port.room cpu.port) c.args.memory.now c.take_entry_room.new.memory c.stray.new.memory
-    c.requires.stands e.progress e.memory c.stray.ensures.same c.args.name c.args.off c.requires.steps c.stray.ensures.strays in
-    all.makes
+    unmade-leaves g.P.Port.made g.P.Port.faults g.P.Port.room c.args.self.now c.take_entry_room.new.progress c.args.memory.now c.take_entry_room.new.memory c.requires.stands e.progress e.memory c.from_residual.result c.from_residual.ensures.0
+
+pub returns-in_err-bytes-clause-leaves : goal.returns-in_err-bytes-clause-leaves
+returns-in_err-bytes-clause-leaves g c =
+    let e = c.take_entry_room.ensures in
+    unmade-leaves g.P.Port.made g.P.Port.faults g.P.Port.room c.args.self.now c.take_entry_room.new.progress c.args.memory.now c.take_entry_room.new.memory c.requires.stands e.progress e.memory c.from_residual-in_err-bytes.result c.from_residual-in_err-bytes.ensures.0

@@ -1,7 +1,0 @@
-use Rattle.std.specs.Prelude.{ℕ, List}
-use Rattle.event_core.specs.declared.module_call.ModuleCall.{ModuleCall}
-
--- a log of module calls: those made, and how many more it has room for
-pub record Logged : Type 0 where
-  pub calls : List ModuleCall
-  pub room : ℕ

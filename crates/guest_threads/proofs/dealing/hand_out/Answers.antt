@@ -1,0 +1,40 @@
+use Rattle.std.proofs.Common.{◌≡◌, ◌<◌, [], ◌∷◌, ◌++◌, sym, ◌∙◌, ap, subst, get_or, length, arith, append_assoc, length-append}
+use Rattle.guest_threads.specs.Dealt.{Gains}
+use Rattle.guest_threads.proofs.DealLemmas.{at-turn, turn-done, turn-later}
+use Rattle.guest_threads.proofs.dealing.hand_out.Goals as goal
+
+pub index_mut-requires : goal.index_mut-requires
+index_mut-requires c =
+    let inv = c.loop-pass.invariant in
+    let items = inv.items ∙ ap (λ l. c.loop-pass.yielded ++ l) c.in-Some.ensures.steps.0 in
+    let n = length-append c.loop-pass.yielded (c.in-Some.pass ∷ c.next.new.self.rest.items) in
+    omega (arith, ap length items, n, inv.cpu, inv.count, c.requires, c.args.passes.ok.0)
+
+pub loop-pass-preserved : goal.loop-pass-preserved
+loop-pass-preserved c =
+    let inv = c.loop-pass.invariant in
+    let pass = c.in-Some.pass in
+    let before = c.loop-pass.yielded in
+    let after = c.next.new.self.rest.items in
+    let all = c.loop-pass.all.items in
+    let old = c.args.all.now.items in
+    let now = c.gain.new.mine in
+    let was = c.index_mut.result.now in
+    let items : c.args.passes.items ≡ before ++ pass ∷ after = inv.items ∙ ap (λ l. before ++ l) c.in-Some.ensures.steps.0 in
+    let n = length-append before (pass ∷ after) in
+    let m = length-append before (pass ∷ []) in
+    let below : c.loop-pass.cpu < length all = omega (arith, ap length items, n, inv.cpu, inv.count, c.requires, c.args.passes.ok.0, c.loop-pass.all.ok.0) in
+    let turn : (e : _) → get_or c.args.passes.items c.loop-pass.cpu e ≡ pass = λ e. ap (λ k. get_or c.args.passes.items k e) inv.cpu ∙ at-turn c.args.passes.items before after pass e items in
+    record {
+      items = items ∙ sym (append_assoc before (pass ∷ []) after);
+      cpu = omega (arith, inv.cpu, m);
+      count = inv.count;
+      done = turn-done Gains old all c.args.passes.items c.loop-pass.cpu now was below (sym c.index_mut.ensures.value) (λ e. subst (Gains was now) (sym (turn e)) c.in_ok-gain.ensures) inv.later inv.done;
+      later = turn-later Gains old all c.args.passes.items c.loop-pass.cpu now was below inv.later;
+    }
+
+pub returns-clause-gains : goal.returns-clause-gains
+returns-clause-gains c = λ k d e low.
+    let inv = c.loop-pass.invariant in
+    let rest = c.loop-pass.pass-iterator.rest.items in
+    inv.done k d e (omega (arith, low, inv.cpu, ap length inv.items, length-append c.loop-pass.yielded rest, c.in-None.ensures.steps.0, c.requires, c.args.passes.ok.0))
