@@ -4,6 +4,3 @@
 mod accept;
 
 pub use accept::{RunEnd, accept_run, most_calls};
-
-#[cfg(test)]
-mod tests;

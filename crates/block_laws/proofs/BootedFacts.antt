@@ -97,7 +97,7 @@ boot-takes boot made = plain-takes boot boot.calls (boot-plain boot made)
 -- ---- pending pages lie in set units
 
 -- with a table
-table-set : (map : List Descriptor) (hosts : List HostRun) (table : Bits) (slots areas cpus : ℕ) (boot : Boot) → FitsTable map table → Uncalled map hosts (Some table) slots areas cpus boot → (page : ℕ) → is_pending (first_by map (Some table) page) ≡ true → (unit : ℕ) × SetUnit boot unit page
+pub table-set : (map : List Descriptor) (hosts : List HostRun) (table : Bits) (slots areas cpus : ℕ) (boot : Boot) → FitsTable map table → Uncalled map hosts (Some table) slots areas cpus boot → (page : ℕ) → is_pending (first_by map (Some table) page) ≡ true → (unit : ℕ) × SetUnit boot unit page
 table-set map hosts table slots areas cpus boot fits plain page h =
     let marked : marks_page table page ≡ true = sym (pending-marked map table page fits) ∙ h in
     let two = and_parts (nat_le (table.base / 4096) page) (bit_of table.bits ((page - table.base / 4096) / (table.unit / 4096))) marked in
@@ -145,7 +145,7 @@ page-in base size page least is even same low =
     (omega (arith, first, at, even, low), omega (arith, first, at, pages, even, low))
 
 -- by the map alone, but for the early pieces
-stub-set : (map : List Descriptor) (hosts : List HostRun) (slots areas cpus : ℕ) (boot : Boot) → MapRules map hosts → Uncalled map hosts None slots areas cpus boot → (page : ℕ) → is_pending (first_by map None page) ≡ true → (list_any (early_in page) (unaccepted map) ≡ true) ⊎ ((unit : ℕ) × SetUnit boot unit page)
+pub stub-set : (map : List Descriptor) (hosts : List HostRun) (slots areas cpus : ℕ) (boot : Boot) → MapRules map hosts → Uncalled map hosts None slots areas cpus boot → (page : ℕ) → is_pending (first_by map None page) ≡ true → (list_any (early_in page) (unaccepted map) ≡ true) ⊎ ((unit : ℕ) × SetUnit boot unit page)
 stub-set map hosts slots areas cpus boot rules plain page h =
     let base : ℕ = stub_base map in
     let end : ℕ = greatest_end (unaccepted map) in

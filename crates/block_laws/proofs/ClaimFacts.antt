@@ -38,7 +38,7 @@ use Rattle.event_core.specs.Own.{replied, own_of, script_of}
 use Rattle.event_core.specs.OwnRows.{is_inside, strayed_bytes, page_behind, found_at}
 use Rattle.event_core.specs.Refusals.{refusal_of}
 use Rattle.event_core.specs.Units.{guarded_units, units_end}
-use Rattle.event_core.proofs.SoundLemmas.{entries_of-push, placed-push, AreApart, Made, New, Kept, After, Mine, Before, apart-start, legal-front}
+use Rattle.event_core.proofs.SoundLemmas.{entries_of-push, placed-push, legal-front}
 use Rattle.event_core.proofs.StandingLemmas.{IsPlaced, claim_of-memory, claim_of-push}
 use Rattle.event_core.proofs.CommandLemmas.{command-of, step_told}
 
@@ -174,6 +174,16 @@ has-script boot scripts history entry f =
           in cc)
     ]
 
+-- the claims after entries: each is a processor's, and they are apart
+pub record AreApart (boot : Boot) (entries : List Entry) : Type 0 where
+  pub low : (cpu : ℕ) (claim : Claimed) → claim_of boot entries cpu ≡ Some claim → cpu < boot.cpus
+  pub apart : ClaimsApart boot entries
+
+-- a claim that a step makes is a new one, or has the units of the one before
+pub data Made (e : Event) (before : Option Claimed) (units : Units) : Type 0 where
+  New : (block : Option Block) (run : Units) → e ≡ event.Claim block (Some units) (Some run) → Made e before units
+  Kept : (old : Claimed) → before ≡ Some old → old.units ≡ units → Made e before units
+
 made-opened : (block : Option Block) (units run : Option Units) (calls : List ModuleCall) (before : Option Claimed) (claim : Claimed) → opened block units run calls ≡ Some claim → Made (event.Claim block units run) before claim.units
 made-opened block None run calls before claim h = cc
 made-opened block (Some units) None calls before claim h = cc
@@ -195,6 +205,11 @@ made-step : (boot : Boot) (calls : List ModuleCall) (before : Option Claimed) (e
 made-step boot calls before (event.Claim block units run) claim h = made-opened block units run calls before claim h
 made-step boot calls before (event.Report run now stopped next) claim h = made-reported boot calls now before stopped next run claim h
 made-step boot calls before _ claim h = Kept claim h refl
+
+-- the claim of a processor after one more entry: its own may be new, each other's stays
+pub data After (boot : Boot) (entries : List Entry) (entry : Entry) (cpu : ℕ) (units : Units) : Type 0 where
+  Mine : (block : Option Block) (run : Units) → entry.cpu.0 ≡ cpu → entry.event ≡ event.Claim block (Some units) (Some run) → After boot entries entry cpu units
+  Before : (old : Claimed) → claim_of boot entries cpu ≡ Some old → old.units ≡ units → After boot entries entry cpu units
 
 after-made : (boot : Boot) (entries : List Entry) (entry : Entry) (cpu : ℕ) (units : Units) → entry.cpu.0 ≡ cpu → Made entry.event (claim_of boot entries cpu) units → After boot entries entry cpu units
 after-made boot entries entry cpu units same (New block run is) = Mine block run same is
@@ -233,6 +248,16 @@ apart-push boot scripts history entry cpus placed f was = record {
     | Before old had there ↦ was.low cpu old had
   ];
   apart = λ c d a b differ ha hb. pair-apart boot scripts history entry placed f was c d a.units b.units differ (after boot (entries_of history) entry c a ha) (after boot (entries_of history) entry d b hb);
+}
+
+no-claim : (boot : Boot) (cpu : ℕ) → claim_of boot [] cpu ≡ None
+unfolding claim_of
+no-claim boot cpu = refl
+
+pub apart-start : (boot : Boot) → AreApart boot []
+apart-start boot = record {
+  low = λ cpu claim h. let no : None ≡ Some claim = sym (no-claim boot cpu) ∙ h in cc;
+  apart = λ c d a b differ ha hb. let no : None ≡ Some a = sym (no-claim boot c) ∙ ha in cc;
 }
 
 apart-after : (boot : Boot) (scripts : List (List Command)) (history : List Moved) (entries : List Entry) → length scripts ≡ boot.cpus → AllByRecursion (IsPlaced boot) history → AreApart boot (entries_of history) → LegalAfter boot scripts history entries → AreApart boot (entries_of history ++ entries)

@@ -25,6 +25,7 @@ use Rattle.event_core.proofs.CutFacts.{order-fits, blocks-none, blocks-some}
 use Rattle.event_core.proofs.EarlyLemmas.{or-cases, or-left, or-right, in_pages, pairs-tail}
 use Rattle.event_laws.specs.Coming.{BootMade}
 use Rattle.event_laws.proofs.TurnLemmas.{all-map}
+use Rattle.event_laws.proofs.RiseLemmas.{FromOn, next-from, zero-on}
 use Rattle.block_laws.proofs.ListFacts.{all-flat, all-with}
 use Rattle.block_laws.proofs.PageFacts.{IsPrivate}
 
@@ -52,20 +53,12 @@ gapped-joined from r (next ∷ rs) low gapped =
     eq-is : (a b : ℕ) → a ≡ b → (a == b) ≡ true
     eq-is a b same = grind (arith, nat_tests, same)
 
-abbrev pub FromOn : ℕ → List PageRun → Type 0
-FromOn from [] = Unit {0}
-FromOn from (run ∷ runs) = from ≤ run.pages.first
-
-next-from : (run : PageRun) (runs : List PageRun) → AllPairs GoesBefore (run ∷ runs) → FromOn (run_end run) runs
-next-from run [] pairs = tt
-next-from run (next ∷ runs) pairs = (pairs 0 1 run (omega arith) (omega arith)).ends
-
 pub ram-gapped : (from : ℕ) (runs : List PageRun) → FromOn from runs → AllPairs GoesBefore runs → Gapped from (ram_ranges runs)
 ram-gapped from [] low pairs = tt
 ram-gapped from (run ∷ runs) low pairs =
     gapped-joined from run.pages (ram_ranges runs) low (ram-gapped (run_end run) runs (next-from run runs pairs) (pairs-tail GoesBefore run runs pairs))
 
-gapped-low : (from page : ℕ) (rs : List Pages) → Gapped from rs → list_any (in_pages page) rs ≡ true → from ≤ page
+pub gapped-low : (from page : ℕ) (rs : List Pages) → Gapped from rs → list_any (in_pages page) rs ≡ true → from ≤ page
 gapped-low from page [] gapped h = cc
 gapped-low from page (r ∷ rs) gapped h =
     let first = gapped.0 in
@@ -113,7 +106,7 @@ all-whole from (r ∷ rs) gapped =
 both-in : (first count next more page : ℕ) → first + count ≡ next → in_range first (count + more) page ≡ (in_range first count page || in_range next more page)
 both-in first count next more page at = grind (arith, nat_tests, at)
 
-joined-holds : (page : ℕ) (r : Pages) (rs : List Pages) → list_any (in_pages page) (joined r rs) ≡ (in_pages page r || list_any (in_pages page) rs)
+pub joined-holds : (page : ℕ) (r : Pages) (rs : List Pages) → list_any (in_pages page) (joined r rs) ≡ (in_pages page r || list_any (in_pages page) rs)
 joined-holds page r [] = refl
 joined-holds page r (next ∷ rs) =
     elim (cases_Bool (pages_end r == next.first)) [
@@ -292,10 +285,6 @@ cut-left boot pairs room =
     (all-with (IsWhole ranges) (λ (r : Pages). (page : ℕ) → in_range r.first r.count page ≡ true → list_any (in_pages page) ranges ≡ true) (λ r. AllByRecursion (AreLeft boot.ram boot.pool) (without_pool boot.pool r))
     (λ r whole held. range-left boot.ram boot.pool r room whole (λ page h. sym (ranges-hold page boot.ram) ∙ held page h))
     ranges (all-whole 0 ranges (ram-gapped 0 boot.ram (zero-on boot.ram) pairs)) (ranges-ram ranges ranges (λ page h. h)))))
-  where
-    zero-on : (runs : List PageRun) → FromOn 0 runs
-    zero-on [] = tt
-    zero-on (run ∷ runs) = omega arith
 
 -- ---- of a boot
 

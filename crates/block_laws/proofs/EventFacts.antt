@@ -4,24 +4,15 @@ use Rattle.std.specs.Prelude.{slice_get, unwrap_or, IfSome}
 use Rattle.std.specs.List.{AllByRecursion}
 use Rattle.event_core.specs.declared.boot.Boot.{Boot}
 use Rattle.event_core.specs.declared.command.Command.{Command}
-use Rattle.event_core.specs.declared.command.Command.TheVariants as command
 use Rattle.event_core.specs.declared.event.Event.{Event}
 use Rattle.event_core.specs.declared.event.Event.TheVariants as event
 use Rattle.event_core.specs.declared.entry.Place.TheVariants as place
 use Rattle.event_core.specs.Legal.{place_of, same_place}
 use Rattle.event_core.specs.Own.{script_of}
-use Rattle.event_core.proofs.RangedLemmas.{found_one}
-use Rattle.block_laws.specs.BlockScripts.{IsOfBlocks}
+use Rattle.event_core.proofs.SoundLemmas.{found_one}
 use Rattle.block_laws.specs.Unconverting.{ConvertsNothing, ConvertNothing}
 
 -- ---- the commands of the scripts
-
--- commands about ranges and blocks alone convert nothing
-pub blocks-convert-nothing : (c : Command) → IsOfBlocks c → ConvertsNothing c
-blocks-convert-nothing (command.Share name) is = absurd is
-blocks-convert-nothing (command.Private name) is = absurd is
-blocks-convert-nothing (command.Giveback name) is = absurd is
-blocks-convert-nothing _ is = tt
 
 of_script : (script : Option (List Command)) (n : ℕ) → IfSome script (AllByRecursion ConvertsNothing) → IfSome (slice_get (unwrap_or script []) n) ConvertsNothing
 of_script None n all = tt

@@ -190,9 +190,9 @@ copied-keeps : (boot : Boot) (calls : List ModuleCall) (held : Option Mapping) (
 copied-keeps boot calls None off more own are = are
 copied-keeps boot calls (Some m) off more own are = write-keeps boot calls m.block (m.off + off) more own.blocks are
 
-sync-keeps : (boot : Boot) (calls : List ModuleCall) (mapping : List ℕ) (at : ℕ) (more : List ℕ) (e : Event) (own : Own) → AreGuarded boot calls own → AreGuarded boot calls (after_sync mapping at more e own)
-sync-keeps boot calls mapping at more (event.CopiedOut run off len) own are = copied-keeps boot calls (mapping_named own mapping) off more own are
-sync-keeps boot calls mapping at more _ own are = are
+sync-keeps : (boot : Boot) (calls : List ModuleCall) (mapping : List ℕ) (more : List ℕ) (e : Event) (own : Own) → AreGuarded boot calls own → AreGuarded boot calls (after_sync mapping more e own)
+sync-keeps boot calls mapping more (event.CopiedOut run off len) own are = copied-keeps boot calls (mapping_named own mapping) off more own are
+sync-keeps boot calls mapping more _ own are = are
 
 unmap-keeps : (boot : Boot) (calls : List ModuleCall) (mapping more : List ℕ) (e : Event) (own : Own) → AreGuarded boot calls own → AreGuarded boot calls (after_unmap mapping more e own)
 unmap-keeps boot calls mapping more (event.Released run true) own are = copied-keeps boot calls (mapping_named own mapping) 0 more own are
@@ -209,7 +209,7 @@ told-keeps boot calls (Some (command.Share name)) m own is got are = absurd is
 told-keeps boot calls (Some (command.Private name)) m own is got are = absurd is
 told-keeps boot calls (Some (command.Giveback name)) m own is got are = absurd is
 told-keeps boot calls (Some (command.Map mapping name off len direction mask)) m own is got are = map-keeps boot calls mapping name off direction m.entry.event own are
-told-keeps boot calls (Some (command.SyncCpu mapping off len)) m own is got are = sync-keeps boot calls mapping off m.bytes m.entry.event own are
+told-keeps boot calls (Some (command.SyncCpu mapping off len)) m own is got are = sync-keeps boot calls mapping m.bytes m.entry.event own are
 told-keeps boot calls (Some (command.Unmap mapping skip)) m own is got are = unmap-keeps boot calls mapping m.bytes m.entry.event own are
 told-keeps boot calls (Some _) m own is got are = are
 

@@ -300,9 +300,9 @@ copied-stands : (held : Option Mapping) (off : ℕ) (more : List ℕ) (own : Own
 copied-stands None off more own stands = stands
 copied-stands (Some m) off more own stands = bytes-stand m.block (m.off + off) more own stands
 
-sync-stands : (mapping : List ℕ) (at : ℕ) (more : List ℕ) (e : Event) (own : Own) → MappingsNamed own → MappingsNamed (after_sync mapping at more e own)
-sync-stands mapping at more (event.CopiedOut run off len) own stands = copied-stands (mapping_named own mapping) off more own stands
-sync-stands mapping at more _ own stands = stands
+sync-stands : (mapping : List ℕ) (more : List ℕ) (e : Event) (own : Own) → MappingsNamed own → MappingsNamed (after_sync mapping more e own)
+sync-stands mapping more (event.CopiedOut run off len) own stands = copied-stands (mapping_named own mapping) off more own stands
+sync-stands mapping more _ own stands = stands
 
 released-stands : (mapping : List ℕ) (own : Own) → MappingsNamed own → MappingsNamed (without_mapping mapping own)
 released-stands mapping own stands = all-filter (IsNamed own.blocks) (λ (m : Mapping). not (bytes_eq m.name mapping)) own.mappings stands
@@ -331,7 +331,7 @@ module _ (boot : Boot) (cpu : ℕ) (own : Own) (there : List Moved) (calls : Lis
   told-stands (command.Map mapping name off len direction mask) facts =
       map-stands mapping name off direction m.entry.event own
       (λ area run is. mapped-from boot cpu own there mapping name off len mask direction calls (step_told m.entry) area run (facts (not-own (event.Looked area (Some run)) (λ no. cc) is)) is) stands
-  told-stands (command.SyncCpu mapping off len) facts = sync-stands mapping off m.bytes m.entry.event own stands
+  told-stands (command.SyncCpu mapping off len) facts = sync-stands mapping m.bytes m.entry.event own stands
   told-stands (command.Unmap mapping skip) facts = unmap-stands mapping m.bytes m.entry.event own stands
   told-stands _ facts = stands
 

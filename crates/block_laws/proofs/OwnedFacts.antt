@@ -324,9 +324,9 @@ copied-blocks : (held : Option Mapping) (off : ℕ) (more : List ℕ) (own : Own
 copied-blocks None off more own = refl
 copied-blocks (Some m) off more own = write-blocks m.block (m.off + off) more own.blocks
 
-sync-blocks : (mapping : List ℕ) (at : ℕ) (more : List ℕ) (e : Event) (own : Own) → blocks_in own.blocks ≡ blocks_in (after_sync mapping at more e own).blocks
-sync-blocks mapping at more (event.CopiedOut run off len) own = copied-blocks (mapping_named own mapping) off more own
-sync-blocks mapping at more _ own = refl
+sync-blocks : (mapping : List ℕ) (more : List ℕ) (e : Event) (own : Own) → blocks_in own.blocks ≡ blocks_in (after_sync mapping more e own).blocks
+sync-blocks mapping more (event.CopiedOut run off len) own = copied-blocks (mapping_named own mapping) off more own
+sync-blocks mapping more _ own = refl
 
 unmap-blocks : (mapping more : List ℕ) (e : Event) (own : Own) → blocks_in own.blocks ≡ blocks_in (after_unmap mapping more e own).blocks
 unmap-blocks mapping more (event.Released run true) own = copied-blocks (mapping_named own mapping) 0 more own
@@ -375,7 +375,7 @@ module _ (boot : Boot) (memory : List Entry) (own : Own) where
   told-change (command.Giveback name) m is at fits = absurd is
   told-change (command.Map mapping name off len direction mask) m is at fits =
       other-change (command.Map mapping name off len direction mask) m.entry.event _ (λ n o no. cc) (λ n no. cc) at fits (map-blocks mapping name off direction m.entry.event own)
-  told-change (command.SyncCpu mapping off len) m is at fits = other-change (command.SyncCpu mapping off len) m.entry.event _ (λ n o no. cc) (λ n no. cc) at fits (sync-blocks mapping off m.bytes m.entry.event own)
+  told-change (command.SyncCpu mapping off len) m is at fits = other-change (command.SyncCpu mapping off len) m.entry.event _ (λ n o no. cc) (λ n no. cc) at fits (sync-blocks mapping m.bytes m.entry.event own)
   told-change (command.Unmap mapping skip) m is at fits = other-change (command.Unmap mapping skip) m.entry.event _ (λ n o no. cc) (λ n no. cc) at fits (unmap-blocks mapping m.bytes m.entry.event own)
   told-change c m is at fits = other-change c m.entry.event (blocks_in own.blocks) (λ n o no. cc) (λ n no. cc) at fits refl
 

@@ -1,5 +1,4 @@
 pub mod Apart
-pub mod BlockScripts
 pub mod Guarded
 pub mod Mapped
 pub mod Runnable

@@ -42,19 +42,23 @@ module _ {S : Type 0} (fixed : S → Fixed) (part : S → ℕ → Part) (moved :
     named = named_still known.seats below found.named;
   }
 
+  -- the entries that the state has of the processor are those that it knows from now on
+  pub own_left : (known : Known) → known.number ≡ cpu → Finds fixed part moved known taken → made_by known.number (moved state) ≡ (left_known part moved known taken state).own
+  own_left known same found =
+      ap (made_by known.number) may.only_added.1
+      ∙ (filter-append (λ (m : Moved). eqb m.entry.cpu.0 known.number) (moved taken) may.only_added.0
+      ∙ ◌∙◌ {A = List Moved}
+      (ap (λ l. l ++ made_by known.number may.only_added.0) found.own_alone)
+      (ap (λ l. known.own ++ l)
+      (ap (λ c. made_by c may.only_added.0) same
+      ∙ (made_alone cpu may.only_added.0 may.only_added.2 ∙ sym (front_rest (moved state) (moved taken) may.only_added.0 may.only_added.1)))))
+
   -- what the processor itself knows from now on is true
   pub finds_left : (known : Known) → known.number ≡ cpu → cpu < known.seats → Finds fixed part moved known taken → Finds fixed part moved (left_known part moved known taken state) state
   finds_left known same below found = record {
     as_given = may.same_fixed ∙ found.as_given;
     as_left = refl;
     longer = ([], sym (append-nil (moved state)));
-    own_alone =
-        ap (made_by known.number) may.only_added.1
-        ∙ (filter-append (λ (m : Moved). eqb m.entry.cpu.0 known.number) (moved taken) may.only_added.0
-        ∙ ◌∙◌ {A = List Moved}
-        (ap (λ l. l ++ made_by known.number may.only_added.0) found.own_alone)
-        (ap (λ l. known.own ++ l)
-        (ap (λ c. made_by c may.only_added.0) same
-        ∙ (made_alone cpu may.only_added.0 may.only_added.2 ∙ sym (front_rest (moved state) (moved taken) may.only_added.0 may.only_added.1)))));
+    own_alone = own_left known same found;
     named = named_still known.seats below found.named;
   }

@@ -1,11 +1,8 @@
 -- Lemmas on the areas of a pool.
-use Rattle.std.proofs.Common.{ℕ, zero, suc, ◌≡◌, ◌≢◌, ◌+◌, ◌-◌, ◌*◌, ◌/◌, ◌^◌, ◌<◌, ◌≤◌, ◌==◌, None, Some, not, nat_lt, refl, ap, sym, ◌∙◌, inl, inr, arith}
+use Rattle.std.proofs.Common.{ℕ, zero, suc, ◌≡◌, ◌+◌, ◌-◌, ◌*◌, ◌/◌, ◌<◌, ◌≤◌, ◌==◌, None, nat_lt, refl, inl, inr, arith}
 use Rattle.std.proofs.Math.Nat.{div-add-mod, div-le_self, div-lt_iff_lt-mul, lt-mul-div-succ, mul-pos}
 use Rattle.std.proofs.lemmas.Bool.{cases_Bool}
-use Rattle.std.proofs.lemmas.Nat.{mul-le}
 use Rattle.event_core.specs.declared.boot.Boot.{Boot}
-use Rattle.event_core.specs.declared.reply.Reply.TheVariants.{Range}
-use Rattle.event_core.specs.Pool.{area_of_offset}
 use Rattle.event_core.specs.Refusals.{pool_refusal}
 use Rattle.dma_map.specs.declared.pool.Layout.{Layout}
 use Rattle.dma_map.specs.Pools.{HasLayout, IsLayout, LiesIn}
@@ -20,12 +17,6 @@ some-slots layout is = factor layout.areas (layout.slots / layout.areas) (omega 
 
 few-slots : (layout : Layout) → IsLayout layout → layout.slots / layout.areas ≤ 131072
 few-slots layout is = let few = div-le_self layout.slots layout.areas in omega (arith, few, is.few_slots)
-
--- the slots before an area are few
-pub slots-before : (layout : Layout) (area : ℕ) → IsLayout layout → area < 2 ^ 32 → area * (layout.slots / layout.areas) ≤ 2 ^ 32 * 131072
-slots-before layout area is low =
-    let few = few-slots layout is in
-    mul-le area (layout.slots / layout.areas) (2 ^ 32) 131072 (omega (arith, low)) few
 
 -- where a range ends in the area in which it begins
 pub lies-in : (layout : Layout) (off len : ℕ) → IsLayout layout → off + len ≤ 2048 * layout.slots →
@@ -48,30 +39,7 @@ lies-in layout off len is ends same =
       high = rw same (omega (arith, high));
     }
 
--- ---- refusals
-
-pub refused-past : (boot : Boot) (layout : Layout) (off len : ℕ) → HasLayout boot layout → 2048 * layout.slots < off + len →
-    pool_refusal boot off len ≡ Some Range
-refused-past boot layout off len has past =
-    elim (cases_Bool (nat_lt (2048 * boot.slots) (off + len))) [
-      | inl t ↦ rw t refl
-      | inr f ↦ absurd (let slots = has.slots in grind (arith, f, past, slots))
-    ]
-
-pub refused-apart : (boot : Boot) (layout : Layout) (off len : ℕ) → HasLayout boot layout →
-    off / (2048 * (layout.slots / layout.areas)) ≢ (off + len - 1) / (2048 * (layout.slots / layout.areas)) →
-    pool_refusal boot off len ≡ Some Range
-refused-apart boot layout off len has apart =
-    rw (has.slots, has.areas)
-    (elim (cases_Bool (nat_lt (2048 * layout.slots) (off + len))) [
-      | inl t ↦ rw t refl
-      | inr f ↦ rw f
-          (elim (cases_Bool (off / (2048 * (layout.slots / layout.areas)) == (off + len - 1) / (2048 * (layout.slots / layout.areas)))) [
-            | inl t ↦ absurd (grind (arith, t, apart))
-            | inr f ↦ rw f refl
-          ])
-    ])
-
+-- a range that ends in the area in which it begins isn't refused
 pub unrefused : (boot : Boot) (layout : Layout) (off len : ℕ) → HasLayout boot layout → off + len ≤ 2048 * layout.slots →
     off / (2048 * (layout.slots / layout.areas)) ≡ (off + len - 1) / (2048 * (layout.slots / layout.areas)) →
     pool_refusal boot off len ≡ None

@@ -1,4 +1,6 @@
 use Rattle.std.specs.Prelude.{ℕ, Option, None, Some, ◌≡◌, ◌+◌, ◌*◌, ◌/◌, ◌<◌, ◌≤◌}
+use Rattle.std.specs.Option.{option_map}
+use Rattle.guest_base.specs.declared.memory.Pages.{Pages}
 use Rattle.guest_base.specs.declared.limits.TheConstants.{MAX_AREAS, MAX_SLOTS, PAGE_END, SLOT_BYTES}
 use Rattle.event_core.specs.declared.boot.Boot.{Boot}
 use Rattle.dma_map.specs.declared.pool.Layout.{Layout}
@@ -13,6 +15,12 @@ pub record IsLayout (layout : Layout) : Type 0 where
   pub few_slots : layout.slots ≤ MAX_SLOTS
   pub whole : layout.areas * (layout.slots / layout.areas) ≡ layout.slots
   pub end : layout.pool.first + layout.pool.count ≤ PAGE_END
+
+-- the layout of a boot's pool; none where it has none
+abbrev pub layout_in : Boot → Option Layout
+layout_in boot =
+    option_map (λ (pool : Pages). record { pool = pool; slots = boot.slots; areas = boot.areas })
+    boot.pool
 
 -- the boot's pool has this layout
 pub record HasLayout (boot : Boot) (layout : Layout) : Type 0 where

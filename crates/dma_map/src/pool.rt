@@ -2,12 +2,13 @@
 ghost use Rattle.std.specs.Prelude.{◌≡◌, ◌+◌, ◌*◌, ◌/◌, ◌<◌, ◌≤◌, Some, None, IfSome, IfNone};
 ghost use Rattle.std.specs.Int.{IsPowerOfTwo};
 ghost use Rattle.guest_base.specs.Requests.{raised_slots};
-ghost use Rattle.event_core.specs.declared.boot.Boot.{Boot};
+ghost use Rattle.event_core.specs.declared.boot.Boot.{Boot as BootValue};
 ghost use Rattle.event_core.specs.declared.reply.Reply.TheVariants.{Range};
 ghost use Rattle.event_core.specs.AreaRows.{area_looked_in};
 ghost use Rattle.event_core.specs.Pool.{area_of_offset, device_address};
 ghost use Rattle.event_core.specs.Refusals.{pool_refusal};
 
+use event_core::Boot;
 use guest_base::limits::{MAX_AREAS, MAX_SLOTS, PAGE_BYTES, SEGMENT_SLOTS, SLOT_BYTES};
 use guest_base::{CpuNo, Pages, SlotRun};
 
@@ -20,7 +21,21 @@ pub struct Layout {
 }
 
 impl Layout {
-    ghost use Rattle.dma_map.specs.Pools.{HasLayout, IsLayout, LiesIn};
+    ghost use Rattle.dma_map.specs.Pools.{HasLayout, IsLayout, LiesIn, layout_in};
+
+    /// The layout of the pool of a boot. None exactly where it has none.
+    pub fn of_boot(boot: &Boot) -> Option<Layout>
+        ensures { result ≡ layout_in boot.now }
+    {
+        match boot.pool {
+            Some(pool) => Some(Layout {
+                pool,
+                slots: boot.slots,
+                areas: boot.areas,
+            }),
+            None => None,
+        }
+    }
 
     /// The slots of a pool of `areas` areas, 1 to 64 and a power of two, for which `slots` were asked, at most 131,072: one
     /// segment for each area where fewer were asked, and else the next power of two, after Linux's swiotlb.
@@ -52,10 +67,10 @@ impl Layout {
     /// pool's end or don't lie in one area, and for no bytes where `off` is the first byte of a later area.
     pub fn area_of(self, off: u64, len: u64) -> Option<u32>
         requires { IsLayout self }
-        ensures area { IfSome result (λ area. (boot : Boot) → HasLayout boot self
+        ensures area { IfSome result (λ area. (boot : BootValue) → HasLayout boot self
             → (pool_refusal boot off len ≡ None) × (area ≡ area_of_offset boot off)) }
         ensures inside { IfSome result (λ area. LiesIn self area off len) }
-        ensures none { IfNone result ((boot : Boot) → HasLayout boot self
+        ensures none { IfNone result ((boot : BootValue) → HasLayout boot self
             → pool_refusal boot off len ≡ Some Range) }
     {
         let end = u128::from(off) + u128::from(len);
@@ -76,7 +91,7 @@ impl Layout {
     pub fn area_to_look(self, cpu: CpuNo, looks: u32) -> u32
         requires layout { IsLayout self }
         requires few { looks < self.areas }
-        ensures area { (boot : Boot) → HasLayout boot self
+        ensures area { (boot : BootValue) → HasLayout boot self
             → result ≡ area_looked_in boot cpu.0 looks }
         ensures inside { result < self.areas }
     {
@@ -86,7 +101,7 @@ impl Layout {
     /// The address of a run's first byte for the device, in bytes.
     pub fn device_address(self, run: SlotRun) -> u64
         requires { IsLayout self }
-        ensures { (boot : Boot) → HasLayout boot self → result ≡ device_address boot run }
+        ensures { (boot : BootValue) → HasLayout boot self → result ≡ device_address boot run }
     {
         let slot = u64::from(run.area) * u64::from(self.area_slots()) + u64::from(run.first);
         PAGE_BYTES * self.pool.first + (slot * SLOT_BYTES + u64::from(run.offset))

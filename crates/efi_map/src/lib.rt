@@ -12,6 +12,3 @@ mod writing;
 pub use fault::MapFault;
 pub use reading::read_map;
 pub use writing::write_map;
-
-#[cfg(test)]
-mod tests;

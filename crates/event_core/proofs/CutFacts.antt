@@ -1,6 +1,8 @@
-use Rattle.std.proofs.Common.{◌≡◌, ◌≢◌, ℕ, zero, suc, ◌+◌, ◌-◌, ◌^◌, ◌<◌, ◌≤◌, true, [], ◌∷◌, refl, inl, inr, arith, eq-eqb, ne_eqb}
-use Rattle.std.proofs.lemmas.Bool.{cases_Bool}
+use Rattle.std.proofs.Common.{◌≡◌, ◌≢◌, ℕ, zero, suc, ◌+◌, ◌-◌, ◌^◌, ◌<◌, ◌≤◌, true, [], ◌∷◌, refl, sym, subst, inl, inr, arith, eq-eqb, ne_eqb}
+use Rattle.std.specs.List.{AllByRecursion}
+use Rattle.std.proofs.lemmas.Bool.{cases_Bool, cases_lt}
 use Rattle.std.proofs.lemmas.Bool.Decides.{nat_tests}
+use Rattle.guest_base.specs.declared.memory.Block.{Block}
 use Rattle.event_core.specs.Cut.{may_stand, order_at, blocks_from}
 
 -- The order of a block at a place, and the blocks of a range.
@@ -34,3 +36,15 @@ blocks-none (suc most) first left none = rw (eq-eqb left 0 none, blocks_from) re
 pub blocks-some : (most first left : ℕ) → left ≢ 0 → blocks_from (suc most) first left ≡ record { first = first; order = order_at first left 10 } ∷ blocks_from most (first + 2 ^ order_at first left 10) (left - 2 ^ order_at first left 10)
 unfolding blocks_from
 blocks-some most first left some = rw (ne_eqb left 0 some, blocks_from) refl
+
+-- each block of a range has an order up to 10
+pub blocks-orders : (most first left : ℕ) → AllByRecursion (λ (b : Block). b.order ≤ 10) (blocks_from most first left)
+unfolding blocks_from
+blocks-orders zero first left = tt
+blocks-orders (suc most) first left =
+    elim (cases_lt 0 left) [
+      | inl some ↦
+          subst (AllByRecursion (λ (b : Block). b.order ≤ 10)) (sym (blocks-some most first left (omega (arith, some))))
+          (order-most first left 10, blocks-orders most (first + 2 ^ order_at first left 10) (left - 2 ^ order_at first left 10))
+      | inr none ↦ subst (AllByRecursion (λ (b : Block). b.order ≤ 10)) (sym (blocks-none (suc most) first left (omega (arith, none)))) tt
+    ]

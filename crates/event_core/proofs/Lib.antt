@@ -1,6 +1,5 @@
 pub mod StepsLemmas
 pub mod StandingLemmas
-pub mod RangedLemmas
 pub mod SoundLemmas
 pub mod MapLemmas
 pub mod EarlyLemmas
@@ -13,3 +12,4 @@ pub mod FrontLemmas
 pub mod CutFacts
 pub mod CommandLemmas
 pub mod RefusalLemmas
+pub mod BlockLemmas

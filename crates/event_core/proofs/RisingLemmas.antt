@@ -1,11 +1,13 @@
-use Rattle.std.proofs.Common.{◌≡◌, ℕ, suc, ◌⊎◌, Bool, true, false, cond, List, [], ◌∷◌, ◌++◌, map, refl, sym, ◌∙◌, ap, subst, inl, inr, arith}
-use Rattle.std.specs.Prelude.{All, AllPairs, filter, ◌==◌}
+use Rattle.std.proofs.Common.{◌≡◌, ℕ, suc, ◌⊎◌, ◌+◌, ◌≤◌, Bool, true, false, cond, List, [], ◌∷◌, ◌++◌, map, max, refl, sym, ◌∙◌, ap, subst, inl, inr, arith}
+use Rattle.std.specs.Prelude.{All, AllPairs, filter, fold, ◌==◌}
 use Rattle.std.proofs.lemmas.Bool.{cases_eq, eq-eqb, ne_eqb}
 use Rattle.std.proofs.lemmas.List.Elements.{All-nil, All-cons, All-head, All-tail, All-filter}
 use Rattle.std.proofs.lemmas.List.Kept.{AllPairs-cons}
+use Rattle.std.proofs.lemmas.List.Quantifiers.{all_pairs_push}
 use Rattle.event_core.specs.declared.entry.Entry.{Entry}
 use Rattle.event_core.specs.Moved.{Moved}
 use Rattle.event_core.specs.Legal.{ComesBefore}
+use Rattle.event_core.specs.Locally.{Rising}
 
 -- Lists in which each item stands in a relation to every later one, and entries that rise.
 
@@ -71,6 +73,25 @@ Before a b = ComesBefore a.entry b.entry
 pub before-none : (m : Moved) → Before m m → ⊥
 before-none m (inl less) = omega (arith, less)
 before-none m (inr both) = let less = both.1 in omega (arith, less)
+
+-- the greatest stamp of entries, from a number on
+abbrev pub greatest : ℕ → List Entry → ℕ
+greatest from entries = fold (λ last (e : Entry). max last e.stamp) from entries
+
+greatest-from : (from : ℕ) (entries : List Entry) → from ≤ greatest from entries
+greatest-from from [] = omega arith
+greatest-from from (e ∷ es) = let more = greatest-from (max from e.stamp) es in omega (arith, more)
+
+-- no stamp is above the greatest one
+below-greatest : (from : ℕ) (entries : List Entry) → All (λ (e : Entry). e.stamp ≤ greatest from entries) entries
+below-greatest from [] = All-nil (λ (e : Entry). e.stamp ≤ from)
+below-greatest from (e ∷ es) =
+    let more = greatest-from (max from e.stamp) es in
+    All-cons (λ (x : Entry). x.stamp ≤ greatest (max from e.stamp) es) e es (omega (arith, more)) (below-greatest (max from e.stamp) es)
+
+-- an entry whose stamp is above all others comes behind them
+pub rising-push : (entries : List Entry) (e : Entry) → greatest 0 entries + 1 ≤ e.stamp → Rising entries → Rising (entries ++ e ∷ [])
+rising-push entries e above rises = all_pairs_push ComesBefore entries e rises (λ k d inside. inl (let low = below-greatest 0 entries k d inside in omega (arith, low, above)))
 
 -- ---- lists with the same items of each key
 

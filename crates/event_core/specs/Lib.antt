@@ -30,7 +30,6 @@ pub mod Pool
 pub mod PoolBytes
 pub mod Printed
 pub mod Splits
-pub mod RangedScripts
 pub mod ReadableScript
 pub mod Refusals
 pub mod Runs

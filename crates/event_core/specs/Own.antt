@@ -1,6 +1,6 @@
 use Rattle.std.specs.Prelude.{ℕ, List, [], ◌∷◌, Option, None, Some, true, false, not, ◌+◌, is_some, count_by, slice_get, unwrap_or, fold, map, filter, bytes_eq, if◌then◌else◌}
 use Rattle.std.specs.Option.{option_and_then, option_map_or}
-use Rattle.std.specs.List.{filter_map, repeat}
+use Rattle.std.specs.List.{repeat}
 use Rattle.guest_base.specs.declared.memory.Block.{Block}
 use Rattle.guest_base.specs.declared.transfer.Direction.{Direction}
 use Rattle.event_core.specs.declared.command.Command.{Command}
@@ -19,10 +19,6 @@ use Rattle.event_core.specs.Moved.{Moved}
 -- how many commands have their reply
 abbrev pub replied : List Moved → ℕ
 replied own = count_by (λ (m : Moved). is_some m.entry.reply) own
-
--- the replies, in order
-abbrev pub replies_in : List Moved → List Reply
-replies_in own = filter_map (λ (m : Moved). m.entry.reply) own
 
 -- a processor's script; a number without a script has no command
 abbrev pub script_of : List (List Command) → ℕ → List Command
@@ -105,9 +101,9 @@ after_map mapping name off direction _ own = own
 abbrev pub copied_out : List ℕ → ℕ → List ℕ → Own → Own
 copied_out mapping off more own = option_map_or (λ (m : Mapping). with_bytes_at m.block (m.off + off) more own) (mapping_named own mapping) own
 
-abbrev pub after_sync : List ℕ → ℕ → List ℕ → Event → Own → Own
-after_sync mapping at more (event.CopiedOut run off len) own = copied_out mapping off more own
-after_sync mapping at more _ own = own
+abbrev pub after_sync : List ℕ → List ℕ → Event → Own → Own
+after_sync mapping more (event.CopiedOut run off len) own = copied_out mapping off more own
+after_sync mapping more _ own = own
 
 -- a released mapping is no longer had
 abbrev pub without_mapping : List ℕ → Own → Own
@@ -130,7 +126,7 @@ told (Some (command.Share name)) m own = after_share m.entry.event own
 told (Some (command.Private name)) m own = after_private m.entry.event own
 told (Some (command.Giveback name)) m own = after_giveback name m.entry.event own
 told (Some (command.Map mapping name off len direction mask)) m own = after_map mapping name off direction m.entry.event own
-told (Some (command.SyncCpu mapping off len)) m own = after_sync mapping off m.bytes m.entry.event own
+told (Some (command.SyncCpu mapping off len)) m own = after_sync mapping m.bytes m.entry.event own
 told (Some (command.Unmap mapping skip)) m own = after_unmap mapping m.bytes m.entry.event own
 told _ m own = own
 

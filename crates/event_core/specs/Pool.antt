@@ -14,6 +14,10 @@ use Rattle.event_core.specs.declared.entry.Entry.{Entry}
 
 -- The bounce-buffer pool: areas of slots of 2,048 bytes, and the mappings that live in them (after swiotlb.c).
 
+-- how many areas a boot has; none where it has no pool
+abbrev pub area_count : Boot → ℕ
+area_count boot = option_map_or (λ (pool : Pages). boot.areas) boot.pool 0
+
 -- the slots of each area
 abbrev pub area_slots : Boot → ℕ
 area_slots boot = boot.slots / boot.areas

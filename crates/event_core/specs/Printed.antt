@@ -1,10 +1,12 @@
-use Rattle.std.specs.Prelude.{ℕ, List, Option, None, Some, Bool, true, false, ◌≡◌, ◌==◌, map, filter, filter_map}
+use Rattle.std.specs.Prelude.{ℕ, List, Option, None, Some, Bool, true, false, ◌≡◌, ◌==◌, ◌≤◌, All, map, filter, filter_map}
+use Rattle.guest_base.specs.declared.limits.TheConstants.{PAGE_END}
 use Rattle.guest_base.specs.declared.memory.PageRun.{PageRun}
 use Rattle.event_core.specs.declared.boot.Boot.{Boot}
+use Rattle.event_core.specs.declared.boot.Recorded.{Recorded}
 use Rattle.event_core.specs.declared.reply.Reply.{Reply}
 use Rattle.event_core.specs.declared.entry.Entry.{Entry}
 use Rattle.event_core.specs.Calls.{calls_of}
-use Rattle.event_core.specs.Runs.{AreMaximalRuns}
+use Rattle.event_core.specs.Runs.{AreMaximalRuns, run_end}
 use Rattle.event_core.specs.MemoryRows.{page_state}
 use Rattle.event_core.specs.Turns.{numbers_from}
 use Rattle.event_core.specs.Texts.{run_text}
@@ -28,3 +30,12 @@ pub record Printed (boot : Boot) (entries : List Entry) (ordered : Bool) (text :
   pub runs : List PageRun
   pub maximal : AreMaximalRuns (page_state boot (calls_of boot entries)) runs
   pub same : text ≡ run_text (replies_by_processor boot entries) runs (order_asked ordered entries)
+
+-- the runs end within memory, which has 2^28 pages
+abbrev pub EndInMemory : List PageRun → Type 0
+EndInMemory runs = All (λ (run : PageRun). run_end run ≤ PAGE_END) runs
+
+-- the final runs of pages: the maximal runs by their states after all entries, which end in memory
+pub record FinalRuns (r : Recorded) (runs : List PageRun) : Type 0 where
+  pub maximal : AreMaximalRuns (page_state r.boot (calls_of r.boot r.entries)) runs
+  pub within : EndInMemory runs

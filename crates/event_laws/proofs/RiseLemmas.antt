@@ -108,11 +108,15 @@ ranges-joined from to r (next ∷ rs) low rise =
       | inr far ↦ rw far (low, (rise.0, rise.1))
     ]
 
-abbrev FromOn : ℕ → List PageRun → Type 0
+abbrev pub FromOn : ℕ → List PageRun → Type 0
 FromOn from [] = Unit {0}
 FromOn from (run ∷ runs) = from ≤ run.pages.first
 
-next-from : (run : PageRun) (runs : List PageRun) → AllPairs GoesBefore (run ∷ runs) → FromOn (run_end run) runs
+pub zero-on : (runs : List PageRun) → FromOn 0 runs
+zero-on [] = tt
+zero-on (run ∷ runs) = omega arith
+
+pub next-from : (run : PageRun) (runs : List PageRun) → AllPairs GoesBefore (run ∷ runs) → FromOn (run_end run) runs
 next-from run [] pairs = tt
 next-from run (next ∷ runs) pairs = (pairs 0 1 run (omega arith) (omega arith)).ends
 
@@ -160,7 +164,3 @@ unfolding cut
 cut-rises boot pairs =
     let ranges = ram-rises 0 boot.ram (zero-on boot.ram) pairs in
     (ranges.0, blocks-all-rise 0 ranges.0 (flat_map (without_pool boot.pool) (ram_ranges boot.ram)) (pools-rise boot.pool 0 ranges.0 (ram_ranges boot.ram) ranges.1))
-  where
-    zero-on : (runs : List PageRun) → FromOn 0 runs
-    zero-on [] = tt
-    zero-on (run ∷ runs) = omega arith

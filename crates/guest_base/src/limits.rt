@@ -32,6 +32,8 @@ pub const MAX_COMMANDS: u64 = 2048;
 pub const MAX_NAMED_BYTES: u64 = 4_194_304;
 /// The greatest size of an order file, in bytes.
 pub const MAX_ORDER_BYTES: u64 = 67_108_864;
+/// The greatest number of turns that an order file names.
+pub const MAX_TURNS: u64 = 16_777_216;
 /// The greatest number of slots of the pool.
 pub const MAX_SLOTS: u32 = 131_072;
 /// The greatest number of areas of the pool.

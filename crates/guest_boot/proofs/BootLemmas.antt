@@ -1,4 +1,4 @@
-use Rattle.std.proofs.Common.{◌≡◌, ◌≢◌, ℕ, ◌*◌, ◌/◌, ◌<◌, ◌≤◌, true, false, Option, None, Some, List, [], ◌++◌, refl, sym, ◌∙◌, ap, subst, inl, inr, arith, cond, length}
+use Rattle.std.proofs.Common.{◌≡◌, ℕ, ◌*◌, ◌/◌, ◌≤◌, Option, None, Some, List, [], ◌++◌, refl, sym, ◌∙◌, ap, subst, inl, inr, arith, cond, length}
 use Rattle.std.specs.Prelude.{All, IfSome, Result, Err, ◌==◌, slice_get}
 use Rattle.std.proofs.Math.Nat.{pos_of_div-pos, zero-div}
 use Rattle.std.specs.Int.{IsPowerOfTwo}
@@ -19,10 +19,10 @@ use Rattle.event_core.specs.Given.{FitsGiven}
 use Rattle.event_core.specs.Table.{Bits}
 use Rattle.memory_core.specs.Booted.{IsBooted}
 use Rattle.event_core.proofs.FrontLemmas.{front-whole}
-use Rattle.dma_map.specs.Pools.{IsLayout}
+use Rattle.dma_map.specs.Pools.{IsLayout, layout_in}
 use Rattle.dma_map.specs.declared.pool.Layout.{Layout}
 use Rattle.io_areas.specs.Value.{AreaValue}
-use Rattle.guest_boot.specs.Areas.{AreFirstAreas, IsFirstArea, layout_of}
+use Rattle.guest_boot.specs.Areas.{AreFirstAreas, IsFirstArea}
 use Rattle.guest_boot.specs.Booting.{IsEarly, Grew, LeftBy, LieInMemory, PoolGetsAccepted, stages_by}
 use Rattle.guest_boot.specs.Placing.{IsParted, LayoutIn, MayAsk, areas_in, pool_in, share_in}
 use Rattle.guest_boot.specs.declared.fault.BootFault.{BootFault}
@@ -129,7 +129,7 @@ pub begins-areas : {descriptors : List Descriptor} {hosts : List HostRun} {table
     → length made ≡ areas_in layout → ((number : ℕ) (area : AreaValue) → slice_get made number ≡ Some area → IsFirstArea (share_in layout) number area) → AreFirstAreas (with_calls boot calls) made
 begins-areas {descriptors} {hosts} {table} {slots} {areas} {cpus} {ram} {bits} {pieces} {layout} {boot} calls made b parted count each = areas-by hosts slots areas cpus ram bits layout boot calls made b.asked b.placed b.first parted count each
 
-layout-by : (hosts : List HostRun) (slots areas cpus : ℕ) (ram : List PageRun) (bits : Option Bits) (layout : Option Layout) (boot : Boot) → LayoutIn (ram_ranges ram) slots areas layout → IsFirstBoot hosts areas cpus ram bits layout boot → layout_of boot ≡ layout
+layout-by : (hosts : List HostRun) (slots areas cpus : ℕ) (ram : List PageRun) (bits : Option Bits) (layout : Option Layout) (boot : Boot) → LayoutIn (ram_ranges ram) slots areas layout → IsFirstBoot hosts areas cpus ram bits layout boot → layout_in boot ≡ layout
 layout-by hosts slots areas cpus ram bits None boot placed first = ap (option_map (λ (pool : Pages). record { pool = pool; slots = boot.slots; areas = boot.areas })) first.pool
 layout-by hosts slots areas cpus ram bits (Some l) boot placed first =
     let same : boot.areas ≡ l.areas = first.same_areas ∙ sym placed.same_areas in
@@ -138,7 +138,7 @@ layout-by hosts slots areas cpus ram bits (Some l) boot placed first =
     ∙ ap (λ n. Some (record { pool = l.pool; slots = n; areas = boot.areas })) slots_are
     ∙ ap (λ n. Some (record { pool = l.pool; slots = l.slots; areas = n })) same
 
-pub begins-layout : {descriptors : List Descriptor} {hosts : List HostRun} {table : Option Bits} {slots areas cpus : ℕ} {ram : List PageRun} {bits : Option Bits} {pieces : List PageRun} {layout : Option Layout} {boot : Boot} (calls : List ModuleCall) → Begins descriptors hosts table slots areas cpus ram bits pieces layout boot → layout ≡ layout_of (with_calls boot calls)
+pub begins-layout : {descriptors : List Descriptor} {hosts : List HostRun} {table : Option Bits} {slots areas cpus : ℕ} {ram : List PageRun} {bits : Option Bits} {pieces : List PageRun} {layout : Option Layout} {boot : Boot} (calls : List ModuleCall) → Begins descriptors hosts table slots areas cpus ram bits pieces layout boot → layout ≡ layout_in (with_calls boot calls)
 begins-layout {descriptors} {hosts} {table} {slots} {areas} {cpus} {ram} {bits} {pieces} {layout} {boot} calls b = sym (layout-by hosts slots areas cpus ram bits layout boot b.placed b.first)
 
 same-pool : (boot : Boot) (calls : List ModuleCall) (pool : Option Pages) → PoolPlaced boot pool → PoolPlaced (with_calls boot calls) pool

@@ -5,13 +5,13 @@ use Rattle.std.specs.Option.{option_map}
 use Rattle.std.proofs.lemmas.Bool.{cases_Bool, cases_lt}
 use Rattle.std.proofs.lemmas.Bool.Decides.{nat_tests}
 use Rattle.std.proofs.lemmas.Nat.{pow_pos}
-use Rattle.std.proofs.lemmas.List.Elements.{All-nil, All-cons, All-append, All-head, All-tail}
+use Rattle.std.proofs.lemmas.List.Elements.{All-nil, All-cons, All-append, All-head, All-tail, All-from_recursion}
 use Rattle.guest_base.specs.declared.memory.Pages.{Pages}
 use Rattle.guest_base.specs.declared.memory.Block.{Block}
 use Rattle.guest_base.specs.declared.memory.PageRun.{PageRun}
 use Rattle.guest_base.specs.declared.memory.PageState.{PageState}
 use Rattle.event_core.specs.Cut.{pages_end, joined, ram_ranges, pages_between, without_pool, may_stand, order_at, blocks_from, blocks_of}
-use Rattle.event_core.proofs.CutFacts.{order-most, order-fits, blocks-none, blocks-some}
+use Rattle.event_core.proofs.CutFacts.{order-fits, blocks-none, blocks-some, blocks-orders}
 use Rattle.event_core.specs.Runs.{run_end, run_holds, AreMaximalRuns}
 
 -- ---- the order at a place
@@ -74,9 +74,6 @@ blocks-all P end each (suc most) first left low =
       | inr none ↦ rw (blocks-none (suc most) first left (omega arith)) (All-nil P)
     ]
 
-blocks-orders : (end : ℕ) (range : Pages) → pages_end range ≤ end → All (λ (b : Block). b.order ≤ 10) (blocks_of range)
-blocks-orders end range low = blocks-all (λ (b : Block). b.order ≤ 10) end (λ first left some within. order-most first left 10) range.count range.first range.count low
-
 blocks-ends : (end : ℕ) (range : Pages) → pages_end range ≤ end → All (λ (b : Block). b.first + 2 ^ b.order ≤ end) (blocks_of range)
 blocks-ends end range low =
     blocks-all (λ (b : Block). b.first + 2 ^ b.order ≤ end) end
@@ -110,7 +107,9 @@ blocks-each P end ranges each low = all-flat P blocks_of ranges (λ k d lt. each
 
 -- each block has an order up to 10, and ends where the ranges may end
 pub cut-orders : (end : ℕ) (ranges : List Pages) → All (λ (r : Pages). pages_end r ≤ end) ranges → All (λ (b : Block). b.order ≤ 10) (flat_map blocks_of ranges)
-cut-orders end ranges low = blocks-each (λ (b : Block). b.order ≤ 10) end ranges (blocks-orders end) low
+cut-orders end ranges low =
+    let P : Block → Type 0 = λ b. b.order ≤ 10 in
+    blocks-each P end ranges (λ range within. All-from_recursion P (blocks_of range) (blocks-orders range.count range.first range.count)) low
 
 pub cut-ends : (end : ℕ) (ranges : List Pages) → All (λ (r : Pages). pages_end r ≤ end) ranges → All (λ (b : Block). b.first + 2 ^ b.order ≤ end) (flat_map blocks_of ranges)
 cut-ends end ranges low = blocks-each (λ (b : Block). b.first + 2 ^ b.order ≤ end) end ranges (blocks-ends end) low

@@ -1,129 +1,42 @@
 -- After the early pieces each pending page lies in a unit whose bit is set, so that the acceptance of the pool leaves none in it.
-use Rattle.std.proofs.Common.{◌≡◌, ◌≢◌, ℕ, ◌+◌, ◌-◌, ◌*◌, ◌/◌, ◌%◌, ◌<◌, ◌≤◌, Bool, true, false, ◌&&◌, Option, None, Some, List, [], ◌∷◌, ◌++◌, map, refl, sym, ◌∙◌, ap, subst, inl, inr, arith, cond, append-nil, nat_le}
-use Rattle.std.specs.Prelude.{◌⊎◌}
-use Rattle.std.specs.List.{AllByRecursion, list_any}
-use Rattle.std.proofs.lemmas.Bool.{cases_Bool, and_parts}
-use Rattle.std.proofs.lemmas.Bool.Decides.{nat_tests}
-use Rattle.std.proofs.Math.Nat.{div-mul-le_self, lt-div-mul-add}
+use Rattle.std.proofs.Common.{◌≡◌, ℕ, ◌+◌, ◌-◌, ◌*◌, true, false, Option, None, Some, List, [], ◌++◌, map, sym, ◌∙◌, ap, subst, inl, inr, arith, append-nil}
+use Rattle.std.specs.List.{AllByRecursion}
+use Rattle.std.proofs.lemmas.Bool.{cases_Bool}
 use Rattle.guest_base.specs.Ranges.{in_range}
-use Rattle.guest_base.proofs.RangeLemmas.{lt-of, in_range-elim}
+use Rattle.guest_base.proofs.RangeLemmas.{in_range-elim}
 use Rattle.guest_base.specs.declared.memory.HostRun.{HostRun}
 use Rattle.guest_base.specs.declared.memory.Page.{Page}
 use Rattle.guest_base.specs.declared.memory.Pages.{Pages}
 use Rattle.guest_base.specs.declared.memory.PageRun.{PageRun}
-use Rattle.guest_base.specs.declared.memory.PageState.{PageState}
-use Rattle.guest_base.specs.declared.memory.PageState.TheVariants.{Pending, Accepted}
 use Rattle.guest_base.specs.declared.memory.Units.{Units}
 use Rattle.event_core.specs.declared.boot.Boot.{Boot}
 use Rattle.event_core.specs.declared.boot.Descriptor.{Descriptor}
 use Rattle.event_core.specs.declared.module_call.CallKind.TheVariants.{Accept}
 use Rattle.event_core.specs.declared.module_call.ModuleCall.{ModuleCall}
-use Rattle.event_core.specs.Boot.{InTurn, StagePart, Stage, Early, PoolAccepted, AcceptsRun, AcceptsRange, HasRoom, PoolPlaced, Uncalled, set_runs}
-use Rattle.event_core.specs.Given.{FitsGiven, first_by}
-use Rattle.event_core.specs.Map.{MapRules, unaccepted_page, ram_page, is_unaccepted, holds_page}
+use Rattle.event_core.specs.Boot.{InTurn, StagePart, Stage, Early, AcceptsRun, AcceptsRange, HasRoom, Uncalled, set_runs}
+use Rattle.event_core.specs.Given.{FitsGiven}
+use Rattle.event_core.specs.Map.{MapRules}
 use Rattle.event_core.specs.MemoryRows.{page_state, is_pending}
 use Rattle.event_core.specs.Runs.{state_in}
-use Rattle.event_core.specs.Stub.{least_start, greatest_end, unaccepted, stub_base, stub_length}
-use Rattle.event_core.specs.Table.{Bits, FitsTable, marks_page}
-use Rattle.event_core.specs.Units.{bit_of, bit_after, unit_count, unit_first, unit_pages, units_end, guarded_units}
+use Rattle.event_core.specs.Table.{Bits}
+use Rattle.event_core.specs.Units.{bit_after, units_end, guarded_units}
 use Rattle.event_core.proofs.BootFacts.{TakesNone, in-turn-each, all-append}
-use Rattle.event_core.proofs.EarlyLemmas.{or-cases, in_pages, early_in}
-use Rattle.event_core.proofs.SoundLemmas.{state_after-append}
-use Rattle.event_laws.proofs.PlaceLemmas.{UnitFits, unit-some}
-use Rattle.event_laws.proofs.TableFacts.{pending-marked}
+use Rattle.event_laws.proofs.PlaceLemmas.{UnitFits}
 use Rattle.event_laws.proofs.TurnLemmas.{all-map}
-use Rattle.event_laws.proofs.UnitFacts.{table-fits, units-fit}
-use Rattle.block_laws.specs.Guarded.{IsPlainCall, PageIn, UnitIn}
+use Rattle.event_laws.proofs.UnitFacts.{units-fit}
+use Rattle.block_laws.specs.Guarded.{IsPlainCall}
 use Rattle.block_laws.proofs.CutPages.{private-by}
-use Rattle.block_laws.proofs.PageFacts.{IsPrivate, KeepsPrivate, pending-first, pending-before, private-while, private-accepted, not-pending-later}
+use Rattle.block_laws.proofs.PageFacts.{IsPrivate, KeepsPrivate, pending-first, pending-before, private-while, private-accepted}
 use Rattle.block_laws.proofs.SizeFacts.{steps-accept}
 use Rattle.block_laws.proofs.RunFacts.{AnyItem, each-any, runs-hold, turn-accepted}
 use Rattle.block_laws.proofs.GuardFacts.{range-holds}
-use Rattle.block_laws.proofs.EarlyFacts.{early-accepted, Placed, unit-at, any-descriptor, any-marks-end, stub-placed, any-filter, first-pending, unit-low, early-in-pieces}
+use Rattle.block_laws.proofs.EarlyFacts.{early-accepted, early-in-pieces}
 use Rattle.block_laws.proofs.StandFacts.{SetUnit, bit-before, set-below, plain-takes, accept-plain}
+use Rattle.block_laws.proofs.BootedFacts.{table-set, stub-set}
 use Rattle.unaccepted_bitmap.specs.StubMap.{pending_run}
-use Rattle.guest_boot.specs.Booting.{AcceptsRunPiece, AreAccepted, GetsAccepted, early_stages}
+use Rattle.guest_boot.specs.Booting.{AcceptsRunPiece, GetsAccepted, early_stages}
 use Rattle.guest_boot.specs.Starting.{EarlyRunsBy}
 use Rattle.guest_boot.proofs.StageLemmas.{early-turn, kept-pieces}
-
--- ---- pending pages lie in set units
-
--- with a table
-table-set : (map : List Descriptor) (hosts : List HostRun) (table : Bits) (slots areas cpus : ℕ) (boot : Boot) → FitsTable map table → Uncalled map hosts (Some table) slots areas cpus boot → (page : ℕ) → is_pending (first_by map (Some table) page) ≡ true → (unit : ℕ) × SetUnit boot unit page
-table-set map hosts table slots areas cpus boot fits plain page h =
-    let marked : marks_page table page ≡ true = sym (pending-marked map table page fits) ∙ h in
-    let two = and_parts (nat_le (table.base / 4096) page) (bit_of table.bits ((page - table.base / 4096) / (table.unit / 4096))) marked in
-    let unit : ℕ = (page - table.base / 4096) / (table.unit / 4096) in
-    let above = two.0 in
-    let low : table.base / 4096 ≤ page = grind (arith, nat_tests, above) in
-    let size = table-fits table fits.is_table in
-    let positive = unit-some table.unit table.base size in
-    let is = size.unit_is in
-    let some : 0 < table.unit / 4096 = omega (arith, positive, is) in
-    let down = div-mul-le_self (page - table.base / 4096) (table.unit / 4096) in
-    let up : page - table.base / 4096 < unit * (table.unit / 4096) + table.unit / 4096 = lt-div-mul-add some in
-    let below = lt-of unit (unit_count table.bits) ((and_parts _ _ two.1).0) in
-    let count : unit_count boot.bits ≡ unit_count table.bits = ap (λ n. 8 * n) plain.bitmap in
-    let first : unit_first boot unit ≡ table.base / 4096 + unit * (table.unit / 4096) = ap (λ b. b / 4096 + unit * (boot.unit / 4096)) plain.base ∙ ap (λ u. table.base / 4096 + unit * (u / 4096)) plain.unit in
-    let pages : unit_pages boot ≡ table.unit / 4096 = ap (λ u. u / 4096) plain.unit in (
-      unit,
-      record {
-        set = plain.bits unit (omega (arith, below, count)) ∙ two.1;
-        inside = record { low = omega (arith, first, down, low); high = omega (arith, first, pages, up, low) };
-      },
-    )
-
--- a page of a descriptor stands at or above the base
-first-low : (base end page : ℕ) (ds : List Descriptor) → AllByRecursion (Placed base end) ds → list_any (holds_page page) ds ≡ true → base ≤ 4096 * page
-first-low base end page [] all h = cc
-first-low base end page (d ∷ ds) all h =
-    elim (or-cases (holds_page page d) (list_any (holds_page page) ds) h) [
-      | inl here ↦
-          (let two = in_range-elim (d.start / 4096) d.pages page here in
-          let first = two.0 in
-          let even = all.0.even in
-          let low = all.0.low in
-          omega (arith, first, even, low))
-      | inr there ↦ first-low base end page ds all.1 there
-    ]
-
--- a page of a unit of 2 MiB
-page-in : (base size page least : ℕ) → size ≡ 2097152 → least % 2097152 ≡ 0 → base ≡ least → least ≤ 4096 * page
-    → (base / 4096 + (4096 * page - least) / 2097152 * (size / 4096) ≤ page) × (page < base / 4096 + (4096 * page - least) / 2097152 * (size / 4096) + size / 4096)
-page-in base size page least is even same low =
-    let pages : size / 4096 ≡ 512 = ap (λ s. s / 4096) is in
-    let first : base / 4096 ≡ least / 4096 = ap (λ b. b / 4096) same in
-    let at : (4096 * page - least) / 2097152 * (size / 4096) ≡ (4096 * page - least) / 2097152 * 512 = ap (λ p. (4096 * page - least) / 2097152 * p) pages in
-    (omega (arith, first, at, even, low), omega (arith, first, at, pages, even, low))
-
--- by the map alone, but for the early pieces
-stub-set : (map : List Descriptor) (hosts : List HostRun) (slots areas cpus : ℕ) (boot : Boot) → MapRules map hosts → Uncalled map hosts None slots areas cpus boot → (page : ℕ) → is_pending (first_by map None page) ≡ true → (list_any (early_in page) (unaccepted map) ≡ true) ⊎ ((unit : ℕ) × SetUnit boot unit page)
-stub-set map hosts slots areas cpus boot rules plain page h =
-    let base : ℕ = stub_base map in
-    let end : ℕ = greatest_end (unaccepted map) in
-    let placed = stub-placed map rules.each in
-    let whole : base % 2097152 ≡ 0 = even (least_start (unaccepted map)) in
-    let held = any-filter is_unaccepted (holds_page page) map (first-pending (unaccepted_page map page) (ram_page map page) h) in
-    elim (any-descriptor base end page (unaccepted map) whole placed held) [
-      | inl early ↦ inl early
-      | inr marked ↦
-          (let unit : ℕ = (4096 * page - base) / 2097152 in
-          let within = any-marks-end base end (unit-at base page) (unaccepted map) placed marked in
-          let count : unit_count boot.bits ≡ 8 * stub_length map = ap (λ n. 8 * n) plain.bitmap in
-          let below : unit < 8 * stub_length map = unit-low base end unit within in
-          let low = first-low base end page (unaccepted map) placed held in
-          let at = page-in boot.base boot.unit page base plain.unit whole plain.base low in
-          inr (
-            unit,
-            record {
-              set = plain.bits unit (omega (arith, below, count)) ∙ marked;
-              inside = record { low = at.0; high = at.1 };
-            },
-          ))
-    ]
-  where
-    even : (n : ℕ) → (n / 2097152 * 2097152) % 2097152 ≡ 0
-    even n = omega arith
 
 -- ---- calls that accept
 

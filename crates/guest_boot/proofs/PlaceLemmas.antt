@@ -1,10 +1,9 @@
 -- The place of the pool among the ranges of RAM.
-use Rattle.std.proofs.Common.{◌≡◌, ◌≢◌, ℕ, ◌+◌, ◌-◌, ◌/◌, ◌<◌, ◌≤◌, Bool, true, false, Option, None, Some, List, [], ◌∷◌, refl, sym, ◌∙◌, ap, subst, inl, inr, arith, cond, find, nat_le, ◌==◌, ◌&&◌, eqb-true}
-use Rattle.std.specs.Prelude.{◌||◌, ◌⊎◌, is_some}
+use Rattle.std.proofs.Common.{◌≡◌, ◌≢◌, ℕ, ◌+◌, ◌-◌, ◌/◌, ◌<◌, ◌≤◌, Bool, true, false, Option, None, Some, List, [], ◌∷◌, refl, sym, ◌∙◌, ap, subst, inl, inr, arith, cond, find, nat_le, ◌&&◌}
+use Rattle.std.specs.Prelude.{◌||◌, is_some}
 use Rattle.std.specs.List.{All, AllPairs, list_any}
 use Rattle.std.specs.Option.{option_map}
 use Rattle.std.proofs.lemmas.Bool.{cases_Bool, cases_lt, leb-true, le-leb}
-use Rattle.std.proofs.lemmas.Bool.Decides.{nat_tests}
 use Rattle.std.proofs.lemmas.List.Elements.{All-head, All-tail}
 use Rattle.guest_base.specs.Ranges.{in_range}
 use Rattle.guest_base.proofs.RangeLemmas.{in_range-intro, in_range-elim}
@@ -13,14 +12,15 @@ use Rattle.guest_base.specs.declared.memory.PageRun.{PageRun}
 use Rattle.guest_base.specs.declared.memory.PageState.TheVariants.{Pending, Accepted}
 use Rattle.event_core.specs.declared.boot.Boot.{Boot}
 use Rattle.event_core.specs.declared.boot.Descriptor.{Descriptor}
-use Rattle.event_core.specs.Boot.{HasRoom, IsPoolPlace}
-use Rattle.event_core.specs.Cut.{pages_end, joined, ram_ranges}
+use Rattle.event_core.specs.Boot.{IsPoolPlace}
+use Rattle.event_core.specs.Cut.{pages_end, ram_ranges}
 use Rattle.event_core.specs.Given.{first_by}
 use Rattle.event_core.specs.Map.{unaccepted_page, ram_page}
 use Rattle.event_core.specs.Runs.{AreMaximalRuns, GoesBefore, run_holds, state_in}
 use Rattle.event_core.specs.Table.{Bits, marks_page}
 use Rattle.event_core.proofs.EarlyLemmas.{in_pages, or-cases, or-left, or-right}
-use Rattle.block_laws.proofs.CutPages.{Gapped, FromOn, ram-gapped}
+use Rattle.event_laws.proofs.RiseLemmas.{zero-on}
+use Rattle.block_laws.proofs.CutPages.{Gapped, gapped-low, joined-holds, ram-gapped}
 use Rattle.guest_boot.specs.Placing.{HasNoRoom, place_in}
 use Rattle.guest_base.specs.Requests.{raised_slots}
 
@@ -29,23 +29,6 @@ use Rattle.guest_base.specs.Requests.{raised_slots}
 -- a page of one of the ranges
 abbrev pub in_ranges : ℕ → List Pages → Bool
 in_ranges page ranges = list_any (in_pages page) ranges
-
-both-in : (first count next more page : ℕ) → first + count ≡ next → in_range first (count + more) page ≡ (in_range first count page || in_range next more page)
-both-in first count next more page at = grind (arith, nat_tests, at)
-
-joined-holds : (page : ℕ) (r : Pages) (rs : List Pages) → in_ranges page (joined r rs) ≡ (in_pages page r || in_ranges page rs)
-joined-holds page r [] = refl
-joined-holds page r (next ∷ rs) =
-    elim (cases_Bool (pages_end r == next.first)) [
-      | inl near ↦
-          (let at : pages_end r ≡ next.first = eqb-true (pages_end r) next.first near in
-          rw near (ap (λ b. b || in_ranges page rs) (both-in r.first r.count next.first next.count page at) ∙ or-assoc (in_pages page r) (in_pages page next) (in_ranges page rs)))
-      | inr far ↦ rw far refl
-    ]
-  where
-    or-assoc : (a b c : Bool) → ((a || b) || c) ≡ (a || (b || c))
-    or-assoc true b c = refl
-    or-assoc false b c = refl
 
 some-step : (b : Bool) (run : PageRun) (found : Option PageRun) → is_some (option_map (λ (r : PageRun). r.state) (cond b (Some run) found)) ≡ (b || is_some (option_map (λ (r : PageRun). r.state) found))
 some-step true run found = refl
@@ -119,15 +102,6 @@ place-end size end (r ∷ rs) pool low is =
       | inr short ↦ place-end size end rs pool (All-tail (λ (s : Pages). pages_end s ≤ end) r rs low) (sym (place-step size r rs ∙ ap (λ b. place_behind b size r rs) short) ∙ is)
     ]
 
-gapped-low : (from page : ℕ) (rs : List Pages) → Gapped from rs → in_ranges page rs ≡ true → from ≤ page
-gapped-low from page [] gapped h = cc
-gapped-low from page (r ∷ rs) gapped h =
-    let first = gapped.0 in
-    elim (or-cases (in_pages page r) (in_ranges page rs) h) [
-      | inl here ↦ (let low = (in_range-elim r.first r.count page here).0 in omega (arith, first, low))
-      | inr there ↦ (let low = gapped-low (pages_end r + 1) page rs gapped.1 there in omega (arith, first, low))
-    ]
-
 -- all pages from one on, this many, are the ranges'
 abbrev pub AreIn : List Pages → ℕ → ℕ → Type 0
 AreIn ranges first size = (page : ℕ) → in_range first size page ≡ true → in_ranges page ranges ≡ true
@@ -186,10 +160,6 @@ place-low size first from (r ∷ rs) gapped some are =
     ]
 
 -- ---- of RAM
-
-zero-on : (runs : List PageRun) → FromOn 0 runs
-zero-on [] = tt
-zero-on (run ∷ runs) = omega arith
 
 -- the lowest place of its size in RAM
 pub place-is : (boot : Boot) (ram : List PageRun) (size : ℕ) (pool : Pages) → boot.ram ≡ ram → AllPairs GoesBefore ram → 0 < size → place_in size (ram_ranges ram) ≡ Some pool → IsPoolPlace boot size pool

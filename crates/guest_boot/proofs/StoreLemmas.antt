@@ -1,5 +1,5 @@
 -- The store when boot is over: its free and its waiting blocks are the boot's.
-use Rattle.std.proofs.Common.{◌≡◌, ℕ, ◌+◌, ◌^◌, ◌<◌, Bool, true, false, ◌&&◌, Option, None, Some, find, List, [], ◌∷◌, ◌++◌, refl, sym, ◌∙◌, ap, subst, cond, inl, inr, append_assoc, append-nil, map, arith, eqb-true, ◌==◌}
+use Rattle.std.proofs.Common.{◌≡◌, ℕ, ◌+◌, ◌^◌, ◌<◌, Bool, true, false, ◌&&◌, Option, None, Some, find, List, [], ◌∷◌, ◌++◌, refl, sym, ◌∙◌, ap, subst, cond, inl, inr, append_assoc, map, arith, eqb-true, ◌==◌}
 use Rattle.std.specs.Prelude.{not, ◌||◌}
 use Rattle.std.specs.List.{AllByRecursion, list_any}
 use Rattle.std.proofs.lemmas.Bool.{cases_Bool}
@@ -18,6 +18,7 @@ use Rattle.event_core.specs.Boot.{InTurn, StagePart, Stage, Early, BlockAccepted
 use Rattle.event_core.specs.Cut.{cut}
 use Rattle.event_core.specs.Table.{Bits}
 use Rattle.event_core.specs.Units.{bit_after}
+use Rattle.event_core.proofs.BlockLemmas.{first-state, none-owned}
 use Rattle.event_laws.specs.Coming.{BootMade, ComesTo, waits_after}
 use Rattle.event_laws.proofs.RiseLemmas.{RiseTo, cut-rises}
 use Rattle.event_laws.proofs.TurnLemmas.{turn-split}
@@ -35,10 +36,6 @@ use Rattle.dma_map.specs.declared.pool.Layout.{Layout}
 -- ---- the store by the blocks of the cut
 
 -- whether a block waits when boot is over
-first-state : (boot : Boot) (block : Block) → block_state boot [] block ≡ cond (waits_at_boot boot block) Waits Loose
-unfolding block_state
-first-state boot block = refl
-
 first-waiting : (boot : Boot) (block : Block) → is_waiting (block_state boot [] block) ≡ waits_at_boot boot block
 first-waiting boot block = ap is_waiting (first-state boot block) ∙ by_bool (waits_at_boot boot block) where
   by_bool : (b : Bool) → is_waiting (cond b Waits Loose) ≡ b
@@ -50,10 +47,6 @@ first-loose boot block = ap is_loose (first-state boot block) ∙ by_bool (waits
   by_bool : (b : Bool) → is_loose (cond b Waits Loose) ≡ not b
   by_bool true = refl
   by_bool false = refl
-
-none-owned : (page : ℕ) → is_owned [] page ≡ false
-unfolding is_owned
-none-owned page = refl
 
 -- each block was put among the waiting ones exactly if it waits when boot is over
 abbrev pub PutRight : Boot → List PutBlock → Type 0

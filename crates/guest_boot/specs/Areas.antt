@@ -1,17 +1,10 @@
-use Rattle.std.specs.Prelude.{ℕ, List, [], Option, Some, ◌≡◌, ◌*◌, ◌<◌, ◌≤◌, length, slice_get}
-use Rattle.std.specs.Option.{option_map, option_map_or}
+use Rattle.std.specs.Prelude.{ℕ, List, [], Some, ◌≡◌, ◌*◌, ◌<◌, ◌≤◌, length, slice_get}
 use Rattle.guest_base.specs.declared.limits.TheConstants.{MAX_AREAS}
-use Rattle.guest_base.specs.declared.memory.Pages.{Pages}
 use Rattle.event_core.specs.declared.boot.Boot.{Boot}
-use Rattle.event_core.specs.Pool.{area_slots}
-use Rattle.dma_map.specs.declared.pool.Layout.{Layout}
+use Rattle.event_core.specs.Pool.{area_count, area_slots}
 use Rattle.io_areas.specs.Value.{AreaValue}
 
 -- The areas of the pool as boot leaves them.
-
--- how many areas boot makes: none without a pool
-abbrev pub area_count : Boot → ℕ
-area_count boot = option_map_or (λ (pool : Pages). boot.areas) boot.pool 0
 
 -- the area of a number as boot makes it: it has this share of the slots, and no entry
 pub record IsFirstArea (share number : ℕ) (area : AreaValue) : Type 0 where
@@ -28,9 +21,3 @@ pub record AreFirstAreas (boot : Boot) (areas : List AreaValue) : Type 0 where
   pub each : (number : ℕ) (area : AreaValue) → slice_get areas number ≡ Some area
       → IsFirstArea (area_slots boot) number area
   pub whole : boot.areas * area_slots boot ≡ boot.slots
-
--- the pool of a boot, with its slots and areas
-abbrev pub layout_of : Boot → Option Layout
-layout_of boot =
-    option_map
-    (λ (pool : Pages). record { pool = pool; slots = boot.slots; areas = boot.areas }) boot.pool

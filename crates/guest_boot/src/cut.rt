@@ -10,8 +10,8 @@ use guest_base::limits::MAX_ORDER;
 use guest_base::{Block, PageRun, Pages};
 use std::alloc::{AllocError, Global};
 
-/// The maximal ranges of pages of these runs, whatever their states, rising as the runs do.
-pub(crate) fn ranges(alloc: Global, runs: &[PageRun]) -> Result<Vec<Pages>, AllocError>
+/// The maximal ranges of pages of these runs, whatever their states, rising as the runs do. It fails only where memory runs out.
+pub fn ranges(alloc: Global, runs: &[PageRun]) -> Result<Vec<Pages>, AllocError>
     requires { All (λ run. run_end run ≤ PAGE_END) runs.now }
     ensures { IfOk result (λ ranges. ranges.items ≡ ram_ranges runs.now) }
 {
@@ -43,7 +43,7 @@ fn ranges_from(alloc: Global, first: Pages, others: &[PageRun]) -> Result<Vec<Pa
 
 /// The blocks into which the ranges of RAM are cut, but for the pool, rising: of each range that is left, at each place the block of
 /// the greatest order up to 10 that may stand there. The ranges rise; it fails only where memory runs out.
-pub(crate) fn cut_blocks(
+pub fn cut_blocks(
     alloc: Global,
     ranges: &[Pages],
     pool: Option<Pages>,

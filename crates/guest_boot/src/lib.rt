@@ -2,16 +2,12 @@
 #![tactic(auto)]
 
 mod accept;
-mod cut;
-#[cfg(test)]
-mod cut_tests;
+pub mod cut;
 mod fault;
-mod place;
+pub mod place;
 mod share;
 mod stages;
 mod store;
-#[cfg(test)]
-mod tests;
 mod world;
 
 pub use fault::BootFault;

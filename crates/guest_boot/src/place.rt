@@ -41,7 +41,7 @@ pub(crate) fn lay_out(ranges: &[Pages], slots: u32, areas: u32) -> Result<Option
 }
 
 /// The first pages of the first range that has this many. None exactly where no range has them.
-fn place_in(ranges: &[Pages], size: u64) -> Option<Pages>
+pub fn place_in(ranges: &[Pages], size: u64) -> Option<Pages>
     ensures { result ≡ place_in size ranges.now }
 {
     for range in ranges {
@@ -103,18 +103,4 @@ fn areas_of(alloc: Global, layout: Layout) -> Result<Vec<Area>, AllocError>
         areas.push(area)?;
     }
     Ok(areas)
-}
-
-#[cfg(test)]
-mod tests {
-    use super::*;
-
-    #[test]
-    fn the_lowest_range_with_room(rt: HostRuntime) {
-        let range = |first, count| Pages { first, count };
-        let ranges = [range(0, 160), range(0x100, 32_512), range(0x8000, 491_520)];
-        assert_eq!(rt; place_in(&ranges, 16_384), Some(range(0x100, 16_384)));
-        assert_eq!(rt; place_in(&ranges, 160), Some(range(0, 160)));
-        assert_eq!(rt; place_in(&ranges, 491_521), None);
-    }
 }

@@ -20,13 +20,12 @@ use Rattle.event_core.specs.Moved.{Moved}
 use Rattle.event_core.specs.Own.{after_write, ended, nothing, own_of, replied, told, with_bytes_at}
 use Rattle.event_core.specs.ReadableScript.{ReadableScript}
 use Rattle.block_laws.specs.Unconverting.{ConvertsNothing}
-use Rattle.dma_map.specs.Pools.{HasPool, IsLayout}
+use Rattle.dma_map.specs.Pools.{HasPool, IsLayout, layout_in}
 use Rattle.dma_map.specs.declared.pool.Layout.{Layout}
 use Rattle.held_blocks.specs.Holdings.{HoldingsValue, own_in as own_held}
 use Rattle.page_module.specs.Spans.{Taken}
 use Rattle.guest_cpu.specs.Alone.{own_behind, own_written}
 use Rattle.guest_steps.proofs.BeginningLemmas.{all-got}
-use Rattle.guest_cpu.specs.Layouts.{layout_in}
 use Rattle.guest_cpu.specs.Made.{Made, turn_of}
 use Rattle.guest_cpu.specs.declared.progress.OpenRun.{OpenRun}
 use Rattle.guest_cpu.specs.declared.progress.RunRoom.{RunRoom}

@@ -1,5 +1,5 @@
-use Rattle.std.proofs.Common.{◌≡◌, ℕ, ◌+◌, max, Bool, true, false, Option, None, Some, List, [], ◌∷◌, refl, sym, ◌∙◌, ap, subst, map, arith}
-use Rattle.std.specs.Prelude.{fold, is_none, unwrap_or}
+use Rattle.std.proofs.Common.{◌≡◌, ℕ, ◌+◌, max, Bool, true, false, Option, None, Some, List, [], refl, sym, ◌∙◌, ap, subst, map, arith}
+use Rattle.std.specs.Prelude.{is_none, unwrap_or}
 use Rattle.std.specs.Option.{option_and_then, option_map}
 use Rattle.guest_base.specs.declared.memory.Block.{Block}
 use Rattle.guest_base.specs.declared.memory.Page.{Page}
@@ -30,6 +30,7 @@ use Rattle.event_core.specs.Units.{guarded_units}
 use Rattle.event_core.proofs.BlockingLemmas.{blocked-same}
 use Rattle.memory_core.specs.Steps.{last_stamp}
 use Rattle.memory_core.specs.UnderLock.{unmoved}
+use Rattle.memory_core.proofs.UnderLockLemmas.{greatest-last}
 use Rattle.io_areas.specs.Value.{AreaValue}
 use Rattle.guest_steps.specs.Seen.{Seen, need_for, own_now, present_command}
 use Rattle.guest_steps.specs.Steps.{HaveScript, IsBusy, IsNext}
@@ -47,14 +48,6 @@ pub next-now : (c : Seen) (scripts : List (List Command)) (there : List Moved) (
     → next_step c.boot scripts c.number c.moved there calls ≡ step_of c.boot c.number (own_now c) there command calls
 next-now c scripts there calls command have now =
     next-is c scripts there calls have ∙ ap (option_and_then (λ (x : Command). step_of c.boot c.number (own_now c) there x calls)) now
-
--- the memory's last stamp is the greatest of its entries
-greatest-last : (from : ℕ) (entries : List Entry) → fold (λ greatest (m : Moved). max greatest m.entry.stamp) from (map unmoved entries) ≡ fold (λ last (e : Entry). max last e.stamp) from entries
-greatest-last from [] = refl
-greatest-last from (e ∷ es) = greatest-last (max from e.stamp) es
-
-pub greatest-is-last : (entries : List Entry) → greatest_stamp (map unmoved entries) ≡ last_stamp entries
-greatest-is-last entries = greatest-last 0 entries
 
 -- an event that moves no byte
 abbrev pub MovesNone : Event → Type 0
@@ -114,7 +107,7 @@ memory-next c memory command event reply now fine steps fits place moves =
         mine = refl;
         follows = λ scripts have. record {
           over = record { number = refl; step = step scripts have; calls = subst F (sym (entries-unmoved memory)) fits; place = place };
-          stamp = ap (λ (n : ℕ). max (greatest_stamp c.moved) n + 1) (sym (greatest-is-last memory));
+          stamp = ap (λ (n : ℕ). max (greatest_stamp c.moved) n + 1) (sym (greatest-last memory));
           bytes = moves c.boot (script_of scripts c.number) (own_of (script_of scripts c.number) c.moved) there (entry_of_step c memory event reply) refl;
         };
       };

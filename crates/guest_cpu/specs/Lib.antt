@@ -1,5 +1,4 @@
 pub mod Made
-pub mod Layouts
 pub mod Progressing
 pub mod Kept
 pub mod Wanting

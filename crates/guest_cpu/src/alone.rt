@@ -54,26 +54,6 @@ fn told(alloc: Global, held: &mut Holdings, command: &Command) -> Result<Reply, 
     }
 }
 
-/// The reply of a command that ends by the processor alone, whose looks aren't ended yet. After `AllocError`, which is out of
-/// memory, the blocks and their bytes are as before.
-fn answered(alloc: Global, held: &mut Holdings, command: &Command) -> Result<Reply, AllocError>
-    requires unconverting { ConvertsNothing command.now }
-    requires need { (boot : Boot) × (cpu : ℕ) × HasPool boot held.old.layout
-        × (need_for boot cpu (own_held held.old) (Some command.now) ≡ need.Own) }
-    ensures reply { (boot : Boot) (reply : ReplyValue) → HasPool boot held.old.layout
-        → result ≡ Ok reply
-        → alone_reply boot (own_held held.old) command.now ≡ Some reply }
-    ensures held { (reply : ReplyValue) → result ≡ Ok reply
-        → own_held held.new ≡ own_written command.now (Some reply) (own_held held.old) }
-    ensures layout { held.new.layout ≡ held.old.layout }
-    ensures err { OnErr result (own_held held.new ≡ own_held held.old) }
-{
-    match held.refusal(command) {
-        Some(refusal) => Ok(refusal),
-        None => told(alloc, held, command),
-    }
-}
-
 /// The reply of a command that ends by the processor alone. After `AllocError`, which is out of memory, the blocks and their
 /// bytes are as before.
 fn answer(alloc: Global, held: &mut Holdings, command: &Command) -> Result<Reply, AllocError>
@@ -88,7 +68,10 @@ fn answer(alloc: Global, held: &mut Holdings, command: &Command) -> Result<Reply
     ensures layout { held.new.layout ≡ held.old.layout }
     ensures err { OnErr result (own_held held.new ≡ own_held held.old) }
 {
-    let reply = answered(alloc, held, command)?;
+    let reply = match held.refusal(command) {
+        Some(refusal) => refusal,
+        None => told(alloc, held, command)?,
+    };
     held.ended();
     Ok(reply)
 }

@@ -52,15 +52,6 @@ fn buffer(alloc: Global, len: u64) -> Result<Vec<u8>, AllocError>
     Ok(vec![in alloc; 0; len as usize]?)
 }
 
-/// A copy of bytes. `AllocError` is out of memory.
-fn copy_of(alloc: Global, bytes: &[u8]) -> Result<Bytes, AllocError>
-    ensures { IfOk result (λ copy. copy ≡ bytes.now) }
-{
-    let mut copy = Vec::with_capacity(alloc, bytes.len())?;
-    copy.extend_from_slice(bytes)?;
-    Ok(Bytes::from_vec(copy))
-}
-
 /// The bytes, in a list with room for them.
 fn filled(list: Vec<u8>, bytes: &[u8]) -> Bytes
     requires empty { list.items ≡ [] }
@@ -333,7 +324,7 @@ fn device_write(
         (command.DWrite mapping.now off hex.now) result }
 {
     let run = held.live(mapping).run;
-    let bytes = copy_of(alloc, hex.as_slice())?;
+    let bytes = Bytes::from_vec(hex.as_slice().to_vec(alloc)?);
     let len = bytes.len();
     reserve(alloc, area, len)?;
     let (off, len) = (off as u32, len as u32);
@@ -377,7 +368,7 @@ fn host_write(
     ensures { AccessedBy held.now held.now area.old area.new turn.old turn.new
         (command.HostWrite off hex.now) result }
 {
-    let bytes = copy_of(alloc, hex.as_slice())?;
+    let bytes = Bytes::from_vec(hex.as_slice().to_vec(alloc)?);
     let len = bytes.len();
     reserve(alloc, area, len)?;
     area.host_write(turn, off, bytes.as_slice());

@@ -9,7 +9,6 @@ mod area_step;
 mod areas;
 mod blocks;
 mod cpu;
-mod layout;
 mod made;
 mod progress;
 mod room;

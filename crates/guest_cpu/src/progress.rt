@@ -1,9 +1,9 @@
 //! How far a processor has come in its script.
 ghost use Rattle.std.specs.Prelude.{◌≡◌, [], None, All, true, false};
 
-use crate::layout::layout_of;
 use crate::made::MadeEntries;
 use accept_sizes::RunEnd;
+use dma_map::Layout;
 use event_core::{Boot, Entries, Hosts, Script};
 use guest_base::{CpuNo, Units};
 use held_blocks::Holdings;
@@ -73,9 +73,8 @@ impl Progress {
     ghost use Rattle.block_laws.specs.Unconverting.{ConvertsNothing};
     ghost use Rattle.event_core.specs.Moved.{entries_of};
     ghost use Rattle.event_core.specs.ReadableScript.{ReadableScript};
-    ghost use Rattle.dma_map.specs.Pools.{IsLayout};
+    ghost use Rattle.dma_map.specs.Pools.{IsLayout, layout_in};
     ghost use Rattle.std.specs.Option.{ForSome};
-    ghost use Rattle.guest_cpu.specs.Layouts.{layout_in};
     ghost use Rattle.guest_cpu.specs.Progressing.{first_progress};
 
     /// The progress of a processor that has made no entry.
@@ -98,7 +97,7 @@ impl Progress {
             hosts,
             script,
             made: MadeEntries::new(alloc),
-            held: Holdings::new(alloc, layout_of(boot)),
+            held: Holdings::new(alloc, Layout::of_boot(boot)),
             open_run: None,
             later: VecDeque::new(alloc),
         }

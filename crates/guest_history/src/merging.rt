@@ -1,5 +1,5 @@
 //! The merge of the processors' lists, and the order of their turns.
-ghost use Rattle.std.specs.Prelude.{ℕ, List, [], Some, ◌≡◌, All, IfOk, OnOk, map, flat_map, slice_get, unwrap_or};
+ghost use Rattle.std.specs.Prelude.{ℕ, List, [], Some, ◌≡◌, ◌<◌, All, IfOk, OnOk, length, map, flat_map, slice_get, unwrap_or};
 ghost use Rattle.event_core.specs.declared.entry.Entry.{Entry as EntryValue};
 ghost use Rattle.event_core.specs.Legal.{Legal, Whole, with_moved};
 ghost use Rattle.event_core.specs.Splits.{Lists, SplitsInto};
@@ -45,9 +45,12 @@ pub fn gather(
 }
 
 /// The order of turns that makes a run's entries: their processors, one by one. In these turns no processor is idle, and each takes
-/// the next entry; where the run is whole nobody has a next event behind them. Being out of memory is the only error.
+/// the next entry; where the run is whole nobody has a next event behind them. Each has a script. Being out of memory is the only
+/// error.
 pub fn order_of(alloc: Global, run: &Recorded) -> Result<Order, AllocError>
     ensures order { IfOk result (λ order. order ≡ map (λ e. e.cpu) run.now.entries) }
+    ensures low { Legal run.now.boot run.now.scripts run.now.entries → IfOk result (λ order.
+        All (λ cpu. cpu.0 < length run.now.scripts) order) }
     ensures taken { Legal run.now.boot run.now.scripts run.now.entries → IfOk result (λ order.
         TakenIn run.now.boot run.now.scripts [] (map (λ cpu. cpu.0) order) run.now.entries) }
     ensures turned { Whole run.now.boot run.now.scripts run.now.entries → IfOk result (λ order.

@@ -6,6 +6,3 @@ mod stop;
 
 pub use input::{Input, read_input};
 pub use stop::{Cause, InputFile, Stop, print_stop};
-
-#[cfg(test)]
-mod tests;

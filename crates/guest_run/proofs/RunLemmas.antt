@@ -14,7 +14,7 @@ use Rattle.guest_input.specs.Reading.{Reading}
 use Rattle.guest_input.specs.declared.stop.Stop.{Stop}
 use Rattle.guest_input.specs.declared.stop.Stop.TheVariants.{NoMemory}
 use Rattle.guest_input.proofs.InputLemmas.{asks_all}
-use Rattle.guest_text.specs.Printings.{FinalRuns}
+use Rattle.event_core.specs.Printed.{FinalRuns}
 use Rattle.guest_runs.specs.Asking.{asking, PortsKept}
 use Rattle.guest_runs.specs.Recordings.{KeepsRun, RunHalts}
 use Rattle.guest_runs.proofs.PortsLemmas.{keeps_from, kept_more, kept_then}

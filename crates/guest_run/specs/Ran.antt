@@ -8,7 +8,7 @@ use Rattle.guest_input.specs.Asked.{all_names, Asks}
 use Rattle.guest_input.specs.Files.{AreGood}
 use Rattle.guest_input.specs.Reading.{Reading}
 use Rattle.guest_input.specs.declared.stop.Stop.{Stop}
-use Rattle.guest_text.specs.Printings.{FinalRuns}
+use Rattle.event_core.specs.Printed.{FinalRuns}
 use Rattle.guest_runs.specs.Asking.{Asking, PortsKept}
 use Rattle.guest_runs.specs.Recordings.{KeepsRun}
 use Rattle.guest_run.specs.Booted.{BootedBy}

@@ -2,7 +2,7 @@
 ghost use Rattle.std.specs.Prelude.{◌≡◌, ◌≤◌, [], None, Some, length, All, IfErr, IfNone, IfOk, IfSome, IsErrOf, IsSome, OnOk};
 ghost use Rattle.guest_base.specs.declared.limits.TheConstants.{MAX_CPUS};
 ghost use Rattle.guest_input.specs.Reading.{reading};
-ghost use Rattle.guest_text.specs.Printings.{FinalRuns};
+ghost use Rattle.event_core.specs.Printed.{FinalRuns};
 ghost use Rattle.guest_text.specs.Putting.{putting};
 ghost use Rattle.guest_words.specs.Views.{named, seen};
 ghost use Rattle.guest_words.specs.Words.{bytes_of_words, named_by, KeepsLimits};

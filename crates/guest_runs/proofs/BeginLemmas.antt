@@ -9,7 +9,7 @@ use Rattle.event_core.specs.declared.entry.Place.{Place}
 use Rattle.event_core.specs.declared.entry.Place.TheVariants.{Memory, Area, Own}
 use Rattle.event_core.specs.declared.module_call.ModuleCall.{ModuleCall}
 use Rattle.event_core.specs.ReadableScript.{ReadableScript}
-use Rattle.dma_map.specs.Pools.{IsLayout}
+use Rattle.dma_map.specs.Pools.{IsLayout, layout_in}
 use Rattle.event_laws.specs.Coming.{BootMade}
 use Rattle.block_laws.specs.Unconverting.{ConvertsNothing}
 use Rattle.block_laws.specs.Runnable.{IsRunnable}
@@ -17,7 +17,6 @@ use Rattle.memory_core.specs.Booted.{IsBooted}
 use Rattle.guest_steps.specs.Ground.{Ground, IsGroundOf, ground_of, there_in}
 use Rattle.memory_core.proofs.CutLemmas.{cut-length}
 use Rattle.memory_core.proofs.PartsLemmas.{booted}
-use Rattle.guest_cpu.specs.Layouts.{layout_in}
 use Rattle.guest_boot.specs.declared.world.World.{World}
 use Rattle.guest_boot.specs.Worlds.{WorldStands}
 use Rattle.io_areas.specs.Value.{AreaValue}
@@ -27,7 +26,7 @@ use Rattle.guest_steps.specs.Seen.{Seen, first_seen}
 use Rattle.guest_steps.specs.Standing.{Stands}
 use Rattle.guest_steps.proofs.BeginningLemmas.{AreProcessors, beginning}
 use Rattle.guest_runs.specs.Beginning.{Begins}
-use Rattle.guest_runs.specs.OnPorts.{first_on}
+use Rattle.guest_runs.specs.OnPorts.{first_on, ground_in}
 
 -- The processors of a booted world, before the first entry.
 
@@ -55,10 +54,6 @@ module _ {P : Type 0} (made : P → List ModuleCall) (faults : P → ℕ) (boot 
       let rest = first-at (number + 1) scripts ports k c (All-tail IsRunnable script scripts runnable) at in
       let is = rest.0 in
       (omega (arith, is), rest.1, rest.2, rest.3)
-
--- the memory and the areas of a world
-abbrev pub ground_in : World → Ground
-ground_in world = ground_of world.memory world.areas.items
 
 first-ground : (world : World) → WorldStands world → IsGroundOf world.boot (ground_in world)
 first-ground world stands =

@@ -17,7 +17,7 @@ use Rattle.event_core.specs.Turns.{entries_by}
 use Rattle.event_laws.specs.Coming.{BootMade}
 use Rattle.guest_steps.specs.Ground.{Ground}
 use Rattle.guest_boot.specs.declared.world.World.{World}
-use Rattle.guest_text.specs.Printings.{FinalRuns}
+use Rattle.event_core.specs.Printed.{FinalRuns}
 use Rattle.guest_cpu.specs.declared.cpu.Cpu.{Cpu}
 use Rattle.guest_cpu.specs.Standing.{seen_by}
 use Rattle.guest_steps.specs.Running.{AllFinished, AreOf, EachLater, TurnedBy}

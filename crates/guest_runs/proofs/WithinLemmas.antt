@@ -12,7 +12,7 @@ use Rattle.event_core.specs.Runs.{run_holds, state_in, AreMaximalRuns}
 use Rattle.event_core.proofs.BootFacts.{ram-low}
 use Rattle.guest_base.specs.declared.memory.PageState.{PageState}
 use Rattle.event_laws.specs.Coming.{BootMade}
-use Rattle.guest_text.specs.Printings.{EndInMemory}
+use Rattle.event_core.specs.Printed.{EndInMemory}
 
 -- The final runs of pages end in memory.
 

@@ -9,8 +9,8 @@ use Rattle.io_areas.specs.Value.{AreaValue}
 use Rattle.memory_core.specs.Value.{MemoryValue}
 use Rattle.guest_cpu.specs.declared.cpu.Cpu.{Cpu}
 use Rattle.guest_boot.specs.declared.world.World.{World}
-use Rattle.guest_steps.specs.Running.{AllFinished, EachLater, TurnedBy}
-use Rattle.guest_cpu.specs.Standing.{seen_by}
+use Rattle.guest_steps.specs.Running.{AllFinished, AllStand, AtFirst, EachLater, TurnedBy}
+use Rattle.guest_cpu.specs.Standing.{CpuStands, seen_by}
 use Rattle.guest_steps.specs.Seen.{Seen, first_seen}
 use Rattle.guest_steps.specs.Standing.{Together, lists_of, scripts_of}
 use Rattle.guest_runs.specs.Beginning.{Begins}
@@ -30,6 +30,23 @@ first_on made faults boot number (script ∷ scripts) [] = []
 first_on made faults boot number (script ∷ scripts) (port ∷ ports) =
     first_seen boot number script (made port) (faults port)
     ∷ first_on made faults boot (number + 1) scripts ports
+
+-- the memory and the areas of a world
+abbrev pub ground_in : World → Ground
+ground_in world = ground_of world.memory world.areas.items
+
+-- Processors of a booted world on the first of these ports, one for each script, before their first
+-- entry: they stand before its memory and areas. The other ports are left in reverse order.
+pub record HaveBegun {P : Type 0} (made : P → List ModuleCall) (faults room : P → ℕ)
+    (world : World) (scripts : List (List Command)) (before left : List P)
+    (all : List (Cpu P)) : Type 0 where
+  pub before_is : before ≡ ports_of all ++ reverse left
+  pub seen : map (seen_by made faults) all
+      ≡ first_on made faults world.boot 0 scripts (ports_of all)
+  pub count : length all ≡ length scripts
+  pub first : AtFirst (map (seen_by made faults) all) (ground_in world)
+  pub stand : AllStand (seen_by made faults) (CpuStands made faults room) world.memory.boot all
+      (ground_in world)
 
 -- A processor ran on a port, which has come back: it has made the processor's calls, all of which
 -- are reported, and its count of faults is the processor's. If it never failed it never fails.

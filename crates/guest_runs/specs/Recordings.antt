@@ -10,7 +10,7 @@ use Rattle.event_core.specs.FullOnlyWhereFull.{FullOnlyWhereFull}
 use Rattle.event_core.specs.Legal.{Legal, Whole}
 use Rattle.event_core.specs.Turns.{Turned}
 use Rattle.event_core.specs.Untouched.{Untouched}
-use Rattle.guest_text.specs.Printings.{FinalRuns}
+use Rattle.event_core.specs.Printed.{FinalRuns}
 use Rattle.guest_runs.specs.Asking.{Asking, ModuleFailed, PortsKept, PortsMade}
 
 -- What is promised of a recorded run (own rule).

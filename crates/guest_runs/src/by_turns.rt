@@ -1,13 +1,13 @@
 //! A run by turns.
 ghost use Rattle.std.specs.Prelude.{◌≡◌, ◌<◌, Some, All, IfOk, OnErr, length, map};
 ghost use Rattle.guest_base.specs.declared.memory.CpuNo.{CpuNo as CpuValue};
-ghost use Rattle.guest_text.specs.Printings.{FinalRuns};
+ghost use Rattle.event_core.specs.Printed.{FinalRuns};
 ghost use Rattle.guest_runs.specs.Asking.{asking, PortsKept};
 ghost use Rattle.guest_runs.specs.Beginning.{Begins};
 ghost use Rattle.guest_runs.specs.Recordings.{KeepsRun, RunHalts};
 
 use crate::recording::close;
-use crate::seats::{Left, start_all};
+use crate::seats::begin;
 use event_core::{Order, Recorded, Runs, Scripts};
 use guest_boot::World;
 use page_module::Port;
@@ -43,14 +43,13 @@ pub fn turns<P: Port + Send>(
     ensures kept { PortsKept (length scripts)
         (asking P.made P.faults P.never_fails ports.old.items ports.new.items) }
 {
+    let (mut all, left) = begin(alloc, &world, scripts, ports)?;
     let World {
         boot,
         mut memory,
         mut areas,
         ..
     } = world;
-    let left = Left::with_room(alloc, scripts.len())?;
-    let mut all = start_all(alloc, &boot, scripts, ports)?;
     let answer = guest_turns::turns(alloc, &mut memory, &mut areas, &mut all, order);
     close(
         alloc,

@@ -7,7 +7,7 @@ ghost use Rattle.guest_runs.specs.Beginning.{Begins};
 ghost use Rattle.guest_threads.specs.Seated.{AllSeated, Seated};
 ghost use Rattle.gate_port.specs.Gate.{calls_made, faults_of, room_of};
 
-use crate::seats::start_all;
+use crate::seats::begin;
 use event_core::{Command, Entries, NoRoom, Reply, Script, Scripts};
 use gate_port::GatePort;
 use guest_base::{Items, Pages};
@@ -109,13 +109,8 @@ fn seats_of(alloc: Global) -> Result<Seats, Fail>
     ensures two { IfOk result (λ s. length s.all.items ≡ 2) }
 {
     let (world, mut ports) = gated(alloc)?;
-    let World {
-        boot,
-        memory,
-        areas,
-        ..
-    } = world;
-    let all = start_all(alloc, &boot, apart(alloc)?, &mut ports)?;
+    let (all, _) = begin(alloc, &world, apart(alloc)?, &mut ports)?;
+    let World { memory, areas, .. } = world;
     let (locks, passes, _) = lock_all(alloc, memory, areas, &all)?;
     Ok(Seats { locks, passes, all })
 }

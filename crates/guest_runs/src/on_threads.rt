@@ -1,12 +1,12 @@
 //! A run on threads.
 ghost use Rattle.std.specs.Prelude.{◌≡◌, None, IfOk, OnErr, length};
-ghost use Rattle.guest_text.specs.Printings.{FinalRuns};
+ghost use Rattle.event_core.specs.Printed.{FinalRuns};
 ghost use Rattle.guest_runs.specs.Asking.{asking, PortsKept};
 ghost use Rattle.guest_runs.specs.Beginning.{Begins};
 ghost use Rattle.guest_runs.specs.Recordings.{KeepsRun, RunHalts};
 
 use crate::recording::close;
-use crate::seats::{Left, start_all};
+use crate::seats::begin;
 use event_core::{Recorded, Runs, Scripts};
 use guest_boot::World;
 use page_module::Port;
@@ -42,14 +42,13 @@ pub fn run_threads<R: Threads + Wait + Sync, P: Port + Send>(
     ensures kept { PortsKept (length scripts)
         (asking P.made P.faults P.never_fails ports.old.items ports.new.items) }
 {
+    let (mut all, left) = begin(alloc, &world, scripts, ports)?;
     let World {
         boot,
         memory,
         areas,
         ..
     } = world;
-    let left = Left::with_room(alloc, scripts.len())?;
-    let mut all = start_all(alloc, &boot, scripts, ports)?;
     let places = guest_threads::run_threads(rt, alloc, memory, areas, &mut all);
     close(alloc, boot, places, all, ports, left)
 }

@@ -2,16 +2,19 @@
 ghost use Rattle.std.specs.Prelude.{◌≡◌, ◌++◌, ◌+◌, ◌≤◌, List, [], All, IfOk, OnErr, length, map, reverse, vec_len, vec_capacity};
 ghost use Rattle.std.specs.Option.{ForSome};
 ghost use Rattle.block_laws.specs.Runnable.{IsRunnable};
-ghost use Rattle.dma_map.specs.Pools.{IsLayout};
+ghost use Rattle.dma_map.specs.Pools.{IsLayout, layout_in};
 ghost use Rattle.guest_steps.specs.Ground.{Ground};
 ghost use Rattle.guest_steps.specs.Seen.{entries_made};
 ghost use Rattle.guest_steps.specs.Standing.{Stands};
-ghost use Rattle.guest_cpu.specs.Layouts.{layout_in};
 ghost use Rattle.guest_cpu.specs.Standing.{CpuStands, seen_by};
-ghost use Rattle.guest_runs.specs.OnPorts.{first_on, ports_of};
+ghost use Rattle.guest_runs.specs.Asking.{asking, PortsKept};
+ghost use Rattle.guest_runs.specs.Beginning.{Begins};
+ghost use Rattle.guest_runs.specs.OnPorts.{first_on, ports_of, HaveBegun};
+ghost use Rattle.guest_runs.specs.Recordings.{RunHalts};
 
 use event_core::{Boot, Entries, Hosts, Script, Scripts};
 use guest_base::{CpuNo, Items};
+use guest_boot::World;
 use guest_cpu::Cpu;
 use page_module::Port;
 use std::alloc::{AllocError, Global};
@@ -29,7 +32,7 @@ fn copies_of(alloc: Global, hosts: &Hosts, count: usize) -> Result<Vec<Hosts>, A
 }
 
 /// The processors of a boot, one for each script, in order. They take the first ports, and the others are left in reverse order.
-pub(crate) fn start_all<P: Port>(
+fn start_all<P: Port>(
     alloc: Global,
     boot: &Boot,
     scripts: Scripts,
@@ -81,6 +84,34 @@ impl Left {
             lists: Vec::with_capacity(alloc, count as usize)?,
         })
     }
+}
+
+/// What a run of a world begins with: the processors, one for each script, in order, and room for what they leave. They take the
+/// first ports, and the others are left in reverse order. Being out of memory is the only error; the ports stand as before then.
+pub(crate) fn begin<P: Port>(
+    alloc: Global,
+    world: &World,
+    scripts: Scripts,
+    ports: &mut Vec<P>,
+) -> Result<(Vec<Cpu<P>>, Left), AllocError>
+    requires begins { Begins P.made world.now scripts ports.old.items }
+    ensures begun { IfOk result (λ b. HaveBegun P.made P.faults P.room world.now scripts
+        ports.old.items ports.new.items b.0.items) }
+    ensures count { IfOk result (λ b. vec_len b.0 ≡ length scripts) }
+    ensures room { IfOk result (λ b. vec_len ports.new + vec_len b.0 ≤ vec_capacity ports.new) }
+    ensures scripts { IfOk result (λ b. b.1.scripts.items ≡ []) }
+    ensures lists { IfOk result (λ b. b.1.lists.items ≡ []) }
+    ensures script_room { IfOk result (λ b. length scripts ≤ vec_capacity b.1.scripts) }
+    ensures list_room { IfOk result (λ b. length scripts ≤ vec_capacity b.1.lists) }
+    ensures halted { OnErr result (RunHalts
+        (asking P.made P.faults P.never_fails ports.old.items ports.new.items)
+        world.now.boot scripts) }
+    ensures kept { OnErr result (PortsKept (length scripts)
+        (asking P.made P.faults P.never_fails ports.old.items ports.new.items)) }
+{
+    let left = Left::with_room(alloc, scripts.len())?;
+    let all = start_all(alloc, &world.boot, scripts, ports)?;
+    Ok((all, left))
 }
 
 /// Puts the ports of processors back before the others, and takes their scripts and entries.

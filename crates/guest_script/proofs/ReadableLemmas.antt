@@ -29,7 +29,7 @@ use Rattle.guest_script.specs.declared.fault.Why.TheVariants as why
 use Rattle.guest_script.specs.declared.fault.ScriptFault.{ScriptFault}
 use Rattle.guest_script.specs.declared.fault.ScriptFault.TheVariants as fault
 use Rattle.guest_script.specs.Number.{number_of, digits_number, small_value, all_digits}
-use Rattle.guest_script.specs.Arguments.{◌>>=◌, name_of, hex_of, bounded, mask_of, name_at, number_at, order_at, byte_at, mask_at, direction_at, hex_at, one_name, two_numbers, name_order, name_offset, name_range, name_hex, offset_hex}
+use Rattle.guest_script.specs.Arguments.{◌>>=◌, name_of, hex_of, bounded, mask_of, name_at, number_at, order_at, byte_at, mask_at, direction_at, hex_at, one_name, two_of, three_of, two_numbers, name_order, name_offset, name_range, name_hex, offset_hex}
 use Rattle.guest_script.specs.Verbs.{verb_of}
 use Rattle.guest_script.specs.Commands.{fill_of, mapping_of, map_of, unmap_of, memory_command, block_command, pool_command, command_at, command_of}
 use Rattle.guest_script.specs.Script.{at_line, followed_by, line_words, with_command, with_words, with_line, with_lines, script_of}
@@ -135,55 +135,48 @@ one_keeps (name ∷ []) = name_keeps name
 one_keeps [] = tt
 one_keeps (name ∷ more ∷ others) = tt
 
+two_keep : {A B : Type 0} (first : List ℕ → Result A Why) (second : List ℕ → Result B Why) (P : A → Type 0) (Q : B → Type 0)
+    → ((word : List ℕ) → IfOk (first word) P) → ((word : List ℕ) → IfOk (second word) Q) → (words : List (List ℕ)) → IfOk (two_of first second words) (λ a. P a.0 × Q a.1)
+two_keep first second P Q one other (a ∷ b ∷ []) = next_holds (first a) _ P _ (one a) (λ x p. next_holds (second b) _ Q _ (other b) (λ y q. (p, q)))
+two_keep first second P Q one other [] = tt
+two_keep first second P Q one other (a ∷ []) = tt
+two_keep first second P Q one other (a ∷ b ∷ more ∷ others) = tt
+
+three_keep : {A B C : Type 0} (first : List ℕ → Result A Why) (second : List ℕ → Result B Why) (third : List ℕ → Result C Why) (P : A → Type 0) (Q : B → Type 0) (R : C → Type 0)
+    → ((word : List ℕ) → IfOk (first word) P) → ((word : List ℕ) → IfOk (second word) Q) → ((word : List ℕ) → IfOk (third word) R)
+    → (words : List (List ℕ)) → IfOk (three_of first second third words) (λ a. P a.0 × Q a.1 × R a.2)
+three_keep first second third P Q R one other last (a ∷ b ∷ c ∷ []) =
+    next_holds (first a) _ P _ (one a) (λ x p.
+    next_holds (second b) _ Q _ (other b) (λ y q.
+    next_holds (third c) _ R _ (last c) (λ z r. (p, q, r))))
+three_keep first second third P Q R one other last [] = tt
+three_keep first second third P Q R one other last (a ∷ []) = tt
+three_keep first second third P Q R one other last (a ∷ b ∷ []) = tt
+three_keep first second third P Q R one other last (a ∷ b ∷ c ∷ more ∷ others) = tt
+
 numbers_keep : (words : List (List ℕ)) → IfOk (two_numbers words) (λ a. IsNumber a.0 × IsNumber a.1)
 unfolding two_numbers
-numbers_keep (first ∷ second ∷ []) = next_holds (number_at first) _ IsNumber _ (number_keeps first) (λ a p. next_holds (number_at second) _ IsNumber _ (number_keeps second) (λ b q. (p, q)))
-numbers_keep [] = tt
-numbers_keep (first ∷ []) = tt
-numbers_keep (first ∷ second ∷ more ∷ others) = tt
+numbers_keep words = two_keep number_at number_at IsNumber IsNumber number_keeps number_keeps words
 
 order_of_keeps : (words : List (List ℕ)) → IfOk (name_order words) (λ a. IsName a.0 × (a.1 ≤ 10))
 unfolding name_order
-order_of_keeps (name ∷ order ∷ []) = next_holds (name_at name) _ IsName _ (name_keeps name) (λ n p. next_holds (order_at order) _ (λ k. k ≤ 10) _ (order_keeps order) (λ k q. (p, q)))
-order_of_keeps [] = tt
-order_of_keeps (name ∷ []) = tt
-order_of_keeps (name ∷ order ∷ more ∷ others) = tt
+order_of_keeps words = two_keep name_at order_at IsName (λ k. k ≤ 10) name_keeps order_keeps words
 
 offset_keeps : (words : List (List ℕ)) → IfOk (name_offset words) (λ a. IsName a.0 × IsNumber a.1)
 unfolding name_offset
-offset_keeps (name ∷ off ∷ []) = next_holds (name_at name) _ IsName _ (name_keeps name) (λ n p. next_holds (number_at off) _ IsNumber _ (number_keeps off) (λ o q. (p, q)))
-offset_keeps [] = tt
-offset_keeps (name ∷ []) = tt
-offset_keeps (name ∷ off ∷ more ∷ others) = tt
+offset_keeps words = two_keep name_at number_at IsName IsNumber name_keeps number_keeps words
 
 range_keeps : (words : List (List ℕ)) → IfOk (name_range words) (λ a. IsName a.0 × IsNumber a.1 × IsNumber a.2)
 unfolding name_range
-range_keeps (name ∷ off ∷ len ∷ []) =
-    next_holds (name_at name) _ IsName _ (name_keeps name) (λ n p.
-    next_holds (number_at off) _ IsNumber _ (number_keeps off) (λ o q.
-    next_holds (number_at len) _ IsNumber _ (number_keeps len) (λ l r. (p, q, r))))
-range_keeps [] = tt
-range_keeps (name ∷ []) = tt
-range_keeps (name ∷ off ∷ []) = tt
-range_keeps (name ∷ off ∷ len ∷ more ∷ others) = tt
+range_keeps words = three_keep name_at number_at number_at IsName IsNumber IsNumber name_keeps number_keeps number_keeps words
 
 bytes_keep : (words : List (List ℕ)) → IfOk (name_hex words) (λ a. IsName a.0 × IsNumber a.1 × IsHex a.2)
 unfolding name_hex
-bytes_keep (name ∷ off ∷ hex ∷ []) =
-    next_holds (name_at name) _ IsName _ (name_keeps name) (λ n p.
-    next_holds (number_at off) _ IsNumber _ (number_keeps off) (λ o q.
-    next_holds (hex_at hex) _ IsHex _ (hex_keeps hex) (λ h r. (p, q, r))))
-bytes_keep [] = tt
-bytes_keep (name ∷ []) = tt
-bytes_keep (name ∷ off ∷ []) = tt
-bytes_keep (name ∷ off ∷ hex ∷ more ∷ others) = tt
+bytes_keep words = three_keep name_at number_at hex_at IsName IsNumber IsHex name_keeps number_keeps hex_keeps words
 
 host_keeps : (words : List (List ℕ)) → IfOk (offset_hex words) (λ a. IsNumber a.0 × IsHex a.1)
 unfolding offset_hex
-host_keeps (off ∷ hex ∷ []) = next_holds (number_at off) _ IsNumber _ (number_keeps off) (λ o q. next_holds (hex_at hex) _ IsHex _ (hex_keeps hex) (λ h r. (q, r)))
-host_keeps [] = tt
-host_keeps (off ∷ []) = tt
-host_keeps (off ∷ hex ∷ more ∷ others) = tt
+host_keeps words = two_keep number_at hex_at IsNumber IsHex number_keeps hex_keeps words
 
 -- the commands
 

@@ -81,66 +81,50 @@ one_name (name ∷ []) = name_at name
 one_name [] = Err Arity
 one_name (name ∷ more ∷ others) = Err Arity
 
--- two numbers: START LEN, or OFF LEN
+-- two arguments
+abbrev pub two_of : {A B : Type 0} → (List ℕ → Result A Why) → (List ℕ → Result B Why)
+    → List (List ℕ) → Result (A × B) Why
+two_of first second (a ∷ b ∷ []) = do
+  x ← first a
+  y ← second b
+  Ok (x, y)
+two_of first second [] = Err Arity
+two_of first second (a ∷ []) = Err Arity
+two_of first second (a ∷ b ∷ more ∷ others) = Err Arity
+
+-- three arguments
+abbrev pub three_of : {A B C : Type 0} → (List ℕ → Result A Why) → (List ℕ → Result B Why)
+    → (List ℕ → Result C Why) → List (List ℕ) → Result (A × B × C) Why
+three_of first second third (a ∷ b ∷ c ∷ []) = do
+  x ← first a
+  y ← second b
+  z ← third c
+  Ok (x, y, z)
+three_of first second third [] = Err Arity
+three_of first second third (a ∷ []) = Err Arity
+three_of first second third (a ∷ b ∷ []) = Err Arity
+three_of first second third (a ∷ b ∷ c ∷ more ∷ others) = Err Arity
+
+-- START LEN, or OFF LEN
 unfoldable pub two_numbers : List (List ℕ) → Result (ℕ × ℕ) Why
-two_numbers (first ∷ second ∷ []) = do
-  a ← number_at first
-  b ← number_at second
-  Ok (a, b)
-two_numbers [] = Err Arity
-two_numbers (first ∷ []) = Err Arity
-two_numbers (first ∷ second ∷ more ∷ others) = Err Arity
+two_numbers words = two_of number_at number_at words
 
 -- NAME ORDER
 unfoldable pub name_order : List (List ℕ) → Result (List ℕ × ℕ) Why
-name_order (name ∷ order ∷ []) = do
-  n ← name_at name
-  k ← order_at order
-  Ok (n, k)
-name_order [] = Err Arity
-name_order (name ∷ []) = Err Arity
-name_order (name ∷ order ∷ more ∷ others) = Err Arity
+name_order words = two_of name_at order_at words
 
 -- NAME OFF
 unfoldable pub name_offset : List (List ℕ) → Result (List ℕ × ℕ) Why
-name_offset (name ∷ off ∷ []) = do
-  n ← name_at name
-  o ← number_at off
-  Ok (n, o)
-name_offset [] = Err Arity
-name_offset (name ∷ []) = Err Arity
-name_offset (name ∷ off ∷ more ∷ others) = Err Arity
+name_offset words = two_of name_at number_at words
 
 -- NAME OFF LEN
 unfoldable pub name_range : List (List ℕ) → Result (List ℕ × ℕ × ℕ) Why
-name_range (name ∷ off ∷ len ∷ []) = do
-  n ← name_at name
-  o ← number_at off
-  l ← number_at len
-  Ok (n, o, l)
-name_range [] = Err Arity
-name_range (name ∷ []) = Err Arity
-name_range (name ∷ off ∷ []) = Err Arity
-name_range (name ∷ off ∷ len ∷ more ∷ others) = Err Arity
+name_range words = three_of name_at number_at number_at words
 
 -- NAME OFF HEX
 unfoldable pub name_hex : List (List ℕ) → Result (List ℕ × ℕ × List ℕ) Why
-name_hex (name ∷ off ∷ hex ∷ []) = do
-  n ← name_at name
-  o ← number_at off
-  h ← hex_at hex
-  Ok (n, o, h)
-name_hex [] = Err Arity
-name_hex (name ∷ []) = Err Arity
-name_hex (name ∷ off ∷ []) = Err Arity
-name_hex (name ∷ off ∷ hex ∷ more ∷ others) = Err Arity
+name_hex words = three_of name_at number_at hex_at words
 
 -- OFF HEX
 unfoldable pub offset_hex : List (List ℕ) → Result (ℕ × List ℕ) Why
-offset_hex (off ∷ hex ∷ []) = do
-  o ← number_at off
-  h ← hex_at hex
-  Ok (o, h)
-offset_hex [] = Err Arity
-offset_hex (off ∷ []) = Err Arity
-offset_hex (off ∷ hex ∷ more ∷ others) = Err Arity
+offset_hex words = two_of number_at hex_at words

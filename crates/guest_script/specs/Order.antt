@@ -5,7 +5,7 @@ use Rattle.std.specs.Result.{result_err}
 use Rattle.std.specs.Fmt.{decimal}
 use Rattle.event_core.specs.Texts.{line}
 use Rattle.guest_base.specs.declared.memory.CpuNo.{CpuNo}
-use Rattle.guest_script.specs.declared.order.TheConstants.{MAX_TURNS}
+use Rattle.guest_base.specs.declared.limits.TheConstants.{MAX_TURNS}
 use Rattle.guest_script.specs.declared.order.OrderFault.{OrderFault}
 use Rattle.guest_script.specs.declared.order.OrderFault.TheVariants as fault
 use Rattle.guest_script.specs.Number.{number_of}

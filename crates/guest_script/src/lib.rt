@@ -18,9 +18,6 @@ pub use fault::{ScriptFault, Why};
 pub use hex_digits::read_hex;
 pub use name::read_name;
 pub use number::read_number;
-pub use order::{MAX_TURNS, OrderFault, print_order, read_order};
+pub use order::{OrderFault, print_order, read_order};
 pub use reply::print_reply;
 pub use script::read_script;
-
-#[cfg(test)]
-mod tests;

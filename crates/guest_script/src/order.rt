@@ -1,18 +1,17 @@
 //! Order files: whose turn it is, one processor after another.
 ghost use Rattle.std.specs.Prelude.{◌≡◌, ◌<◌, ◌≤◌, ◌^◌, ◌∷◌, [], ℕ, length, string_bytes, Ok, IfOk, OnOk, IfErr};
+ghost use Rattle.guest_base.specs.declared.limits.TheConstants.{MAX_TURNS};
 ghost use Rattle.guest_script.specs.Order.{begins_comment, turn_words, turn_of, words_fault, order_in, AddsTurns, IsFirstFault, OrderGives, turns_text, ReadableOrder};
 ghost use Rattle.guest_script.specs.declared.order.OrderFault.TheVariants.{NoMemory as OrderNoMemory};
 
 use crate::number::read_number;
 use crate::words::is_blank;
 use event_core::Order;
+use guest_base::limits::MAX_TURNS;
 use guest_base::{Bytes, CpuNo, Items};
 use std::alloc::{AllocError, AllocFailed, Global};
 use std::fmt::Write;
 use thiserror::Error;
-
-/// The most turns that an order file names.
-pub const MAX_TURNS: u64 = 16_777_216;
 
 /// Why an order file isn't read: the first fault in the order of its words.
 #[derive(Clone, Copy, Debug, PartialEq, Eq, Drop, Error)]

@@ -1,6 +1,6 @@
-use Rattle.std.proofs.Common.{◌≡◌, ◌⊎◌, ℕ, zero, suc, ◌+◌, ◌*◌, ◌/◌, ◌%◌, ◌<◌, ◌≤◌, Bool, true, false, not, Option, None, Some, List, [], ◌∷◌, ◌++◌, filter, map, refl, sym, ◌∙◌, ap, subst, inl, inr, arith, cond, append-nil, get_or, slice_get}
+use Rattle.std.proofs.Common.{◌≡◌, ◌⊎◌, ℕ, zero, suc, ◌+◌, ◌*◌, ◌%◌, ◌<◌, ◌≤◌, Bool, true, false, not, Option, None, Some, List, [], ◌∷◌, ◌++◌, filter, map, refl, sym, ◌∙◌, ap, subst, inl, inr, arith, cond, append-nil, get_or, slice_get}
 use Rattle.std.specs.Prelude.{All, AllPairs, bytes_eq, find, length, nat_lt, ◌==◌}
-use Rattle.std.specs.List.{AllByRecursion, repeat}
+use Rattle.std.specs.List.{repeat}
 use Rattle.std.specs.Option.{option_map_or}
 use Rattle.std.proofs.lemmas.Bool.{both_ways, cases_Bool, eq-eqb, false_from_ne_true}
 use Rattle.std.proofs.lemmas.Bool.Decides.{nat_tests}
@@ -14,13 +14,11 @@ use Rattle.guest_base.specs.declared.memory.Pages.{Pages}
 use Rattle.guest_base.specs.declared.transfer.Direction.{Direction}
 use Rattle.guest_base.specs.declared.transfer.Request.{Request}
 use Rattle.guest_base.specs.declared.transfer.SlotRun.{SlotRun}
-use Rattle.guest_base.specs.Ranges.{in_range}
 use Rattle.guest_base.specs.Requests.{request_of}
 use Rattle.guest_base.proofs.RangeLemmas.{in_range-intro}
 use Rattle.event_core.specs.declared.boot.Boot.{Boot}
 use Rattle.event_core.specs.declared.command.Command.{Command}
 use Rattle.event_core.specs.declared.command.Command.TheVariants as command
-use Rattle.event_core.specs.declared.entry.Place.{Place}
 use Rattle.event_core.specs.declared.entry.Place.TheVariants.{Memory, Area, Own as OwnPlace}
 use Rattle.event_core.specs.declared.event.Event.{Event}
 use Rattle.event_core.specs.declared.event.Event.TheVariants as event
@@ -33,7 +31,7 @@ use Rattle.event_core.specs.Legal.{at_place, bare, place_of, same_place}
 use Rattle.event_core.specs.Moved.{Moved, entries_of, made_by}
 use Rattle.event_core.specs.Next.{Step}
 use Rattle.event_core.specs.Own.{after_alloc, after_free, after_map, after_sync, after_unmap, after_write, copied_out, ended, own_of, replied, told, with_bytes_at}
-use Rattle.event_core.specs.Pool.{area_of_offset, area_slots, is_used, live_after, live_runs, run_found, same_run}
+use Rattle.event_core.specs.Pool.{area_count, area_of_offset, area_slots, is_used, live_after, live_runs, run_found, same_run}
 use Rattle.event_core.specs.ReadableScript.{IsReadable}
 use Rattle.event_core.specs.Refusals.{pool_refusal, refusal_of}
 use Rattle.event_core.proofs.CommandLemmas.{some-same, step_told}
@@ -44,12 +42,11 @@ use Rattle.block_laws.specs.Mapped.{IsOfHeldBlock, MappedAreHeld}
 use Rattle.block_laws.specs.Unconverting.{ConvertsNothing}
 use Rattle.block_laws.proofs.MappedFacts.{IsNamed, MappingsNamed, named-held, step-named}
 use Rattle.pool_laws.specs.Live.{MappingsStand, is_live, live_in, live_of}
-use Rattle.pool_laws.proofs.LiveLemmas.{found-free, live-first, live-in-push, live-kept, live-more, same-run, same-run-refl, used-some, without}
-use Rattle.pool_laws.proofs.LookFacts.{own-push}
+use Rattle.pool_laws.proofs.LiveLemmas.{found-free, live-first, live-in-push, live-kept, live-more, same-run, same-run-refl, used-some}
 use Rattle.pool_laws.proofs.StepFacts.{IsLook, NoLook, need-some, step-known}
 use Rattle.io_areas.specs.Value.{AreaValue}
 use Rattle.guest_steps.specs.declared.processor.Need.TheVariants as need
-use Rattle.guest_steps.specs.Ground.{Ground, HasArea, IsGroundOf, areas_of, there_in}
+use Rattle.guest_steps.specs.Ground.{Ground, HasArea, IsGroundOf, there_in}
 use Rattle.guest_steps.specs.Seen.{Seen, need_of, need_of_copy, need_of_mapping, need_unrefused, own_now}
 use Rattle.guest_steps.specs.Standing.{HasLive, Stands}
 use Rattle.guest_steps.specs.Steps.{Makes, MakesInArea}
@@ -87,9 +84,9 @@ map-mappings mapping name off direction e own plain = refl
 out-mappings : (mapping : List ℕ) (off : ℕ) (more : List ℕ) (own : Own) → (copied_out mapping off more own).mappings ≡ own.mappings
 out-mappings mapping off more own = held-mappings (λ (m : Mapping). with_bytes_at m.block (m.off + off) more own) (mapping_named own mapping) own (λ m. refl)
 
-sync-mappings : (mapping : List ℕ) (at : ℕ) (more : List ℕ) (e : Event) (own : Own) → (after_sync mapping at more e own).mappings ≡ own.mappings
-sync-mappings mapping at more (event.CopiedOut run off len) own = out-mappings mapping off more own
-sync-mappings mapping at more e own = refl
+sync-mappings : (mapping : List ℕ) (more : List ℕ) (e : Event) (own : Own) → (after_sync mapping more e own).mappings ≡ own.mappings
+sync-mappings mapping more (event.CopiedOut run off len) own = out-mappings mapping off more own
+sync-mappings mapping more e own = refl
 
 unmap-mappings : (mapping more : List ℕ) (e : Event) (own : Own) → NoRelease e → (after_unmap mapping more e own).mappings ≡ own.mappings
 unmap-mappings mapping more (event.Released run copied) own still = absurd still
@@ -104,7 +101,7 @@ told-mappings (command.Share name) m own converts plain still = absurd converts
 told-mappings (command.Private name) m own converts plain still = absurd converts
 told-mappings (command.Giveback name) m own converts plain still = absurd converts
 told-mappings (command.Map mapping name off len direction mask) m own converts plain still = map-mappings mapping name off direction m.entry.event own plain
-told-mappings (command.SyncCpu mapping off len) m own converts plain still = sync-mappings mapping off m.bytes m.entry.event own
+told-mappings (command.SyncCpu mapping off len) m own converts plain still = sync-mappings mapping m.bytes m.entry.event own
 told-mappings (command.Unmap mapping skip) m own converts plain still = unmap-mappings mapping m.bytes m.entry.event own still
 told-mappings c m own converts plain still = refl
 
@@ -391,7 +388,7 @@ there-below boot base n g within =
     let number = (g.each n area got).0 in
     record { area = area; number = number; has = ap (slice_get base.areas) number ∙ got }
 
-pool-areas : (boot : Boot) → (boot.pool ≡ None → ⊥) → areas_of boot ≡ boot.areas
+pool-areas : (boot : Boot) → (boot.pool ≡ None → ⊥) → area_count boot ≡ boot.areas
 pool-areas boot some = by_pool boot.pool some where
   by_pool : (pool : Option Pages) → (pool ≡ None → ⊥) → option_map_or (λ (p : Pages). boot.areas) pool 0 ≡ boot.areas
   by_pool None some = absurd (some refl)

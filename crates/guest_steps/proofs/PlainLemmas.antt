@@ -75,9 +75,9 @@ plain-copied : (held : Option Mapping) (off : ℕ) (more : List ℕ) (own : Own)
 plain-copied None off more own p = p
 plain-copied (Some m) off more own p = plain-at m.block (m.off + off) more own p
 
-plain-sync : (mapping : List ℕ) (at : ℕ) (more : List ℕ) (e : Event) (own : Own) → IsPlain own → IsPlain (after_sync mapping at more e own)
-plain-sync mapping at more (event.CopiedOut run off len) own p = plain-copied (mapping_named own mapping) off more own p
-plain-sync mapping at more _ own p = p
+plain-sync : (mapping : List ℕ) (more : List ℕ) (e : Event) (own : Own) → IsPlain own → IsPlain (after_sync mapping more e own)
+plain-sync mapping more (event.CopiedOut run off len) own p = plain-copied (mapping_named own mapping) off more own p
+plain-sync mapping more _ own p = p
 
 plain-unmap : (mapping more : List ℕ) (e : Event) (own : Own) → IsPlain own → IsPlain (after_unmap mapping more e own)
 plain-unmap mapping more (event.Released run true) own p =
@@ -95,7 +95,7 @@ plain-told (Some (command.Share name)) m own is p = absurd is
 plain-told (Some (command.Private name)) m own is p = absurd is
 plain-told (Some (command.Giveback name)) m own is p = absurd is
 plain-told (Some (command.Map mapping name off len direction mask)) m own is p = plain-map mapping name off direction m.entry.event own p
-plain-told (Some (command.SyncCpu mapping off len)) m own is p = plain-sync mapping off m.bytes m.entry.event own p
+plain-told (Some (command.SyncCpu mapping off len)) m own is p = plain-sync mapping m.bytes m.entry.event own p
 plain-told (Some (command.Unmap mapping skip)) m own is p = plain-unmap mapping m.bytes m.entry.event own p
 plain-told _ m own is p = p
 

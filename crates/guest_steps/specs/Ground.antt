@@ -1,12 +1,11 @@
-use Rattle.std.specs.Prelude.{ℕ, List, [], None, Some, ◌≡◌, ◌≢◌, ◌*◌, ◌<◌, ◌≤◌, length, map, slice_get, slice_set}
+use Rattle.std.specs.Prelude.{ℕ, List, [], None, Some, ◌≡◌, ◌≢◌, ◌*◌, ◌<◌, ◌≤◌, length, slice_get, slice_set}
 use Rattle.std.specs.Option.{option_map_or}
 use Rattle.guest_base.specs.declared.limits.TheConstants.{MAX_AREAS}
-use Rattle.guest_base.specs.declared.memory.Pages.{Pages}
 use Rattle.event_core.specs.declared.boot.Boot.{Boot}
 use Rattle.event_core.specs.declared.entry.Place.{Place}
 use Rattle.event_core.specs.declared.entry.Place.TheVariants.{Memory, Area, Own}
 use Rattle.event_core.specs.Moved.{Moved}
-use Rattle.event_core.specs.Pool.{area_slots}
+use Rattle.event_core.specs.Pool.{area_count, area_slots}
 use Rattle.io_areas.specs.Away.{FoundAgain as AreaAgain}
 use Rattle.io_areas.specs.Value.{AreaValue}
 use Rattle.memory_core.specs.Away.{FoundAgain as MemoryAgain}
@@ -41,10 +40,6 @@ there_in base (Area area) =
     option_map_or (λ (a : AreaValue). a.moved) (slice_get base.areas area) []
 there_in base Own = []
 
--- how many areas a boot has; none where it has no pool
-abbrev pub areas_of : Boot → ℕ
-areas_of boot = option_map_or (λ (pool : Pages). boot.areas) boot.pool 0
-
 -- the areas of a boot share out its slots
 pub record SharesOut (boot : Boot) : Type 0 where
   pub some : boot.pool ≢ None → 0 < boot.areas
@@ -55,7 +50,7 @@ pub record SharesOut (boot : Boot) : Type 0 where
 pub record IsGroundOf (boot : Boot) (base : Ground) : Type 0 where
   pub shares : SharesOut boot
   pub memory : base.memory.boot ≡ boot
-  pub count : length base.areas ≡ areas_of boot
+  pub count : length base.areas ≡ area_count boot
   pub each : (n : ℕ) (area : AreaValue) → slice_get base.areas n ≡ Some area
       → (area.number ≡ n) × (area.slots ≡ area_slots boot)
 

@@ -9,10 +9,10 @@ use Rattle.event_core.specs.declared.boot.Recorded.{Recorded}
 use Rattle.event_core.specs.declared.entry.Entry.{Entry}
 use Rattle.event_core.specs.declared.reply.Reply.{Reply}
 use Rattle.event_core.specs.Turns.{numbers_from}
-use Rattle.event_core.specs.Printed.{Printed, replies_by_processor, replies_of_cpu}
+use Rattle.event_core.specs.Printed.{FinalRuns, Printed, replies_by_processor, replies_of_cpu}
 use Rattle.event_core.specs.Texts.{run_text}
 use Rattle.guest_io.specs.declared.sink.PutFault.{PutFault}
-use Rattle.guest_text.specs.Printings.{PrintedAfter, CutAfter, FinalRuns}
+use Rattle.guest_text.specs.Printings.{PrintedAfter, CutAfter}
 use Rattle.guest_text.specs.Putting.{Putting, Put, PutFront}
 
 -- The text that is put is the printed text of the run.

@@ -7,9 +7,9 @@ ghost use Rattle.guest_base.specs.Counts.{Rose};
 ghost use Rattle.guest_io.specs.Writing.{appended, AppendsPrefix};
 ghost use Rattle.event_core.specs.Runs.{run_end};
 ghost use Rattle.event_core.specs.Texts.{line, reply_text, processor_text, processors_text, state_text, page_run_text, pages_text, run_text};
-ghost use Rattle.event_core.specs.Printed.{replies_of_cpu};
+ghost use Rattle.event_core.specs.Printed.{EndInMemory, FinalRuns, replies_of_cpu};
 ghost use Rattle.event_core.specs.Turns.{numbers_from};
-ghost use Rattle.guest_text.specs.Printings.{EndInMemory, FinalRuns, PrintedAfter, CutAfter};
+ghost use Rattle.guest_text.specs.Printings.{PrintedAfter, CutAfter};
 ghost use Rattle.guest_text.specs.Putting.{putting};
 
 use event_core::{Entry, Recorded, Reply, Runs};

@@ -1,25 +1,25 @@
-use Rattle.std.proofs.Common.{◌≡◌, ◌≢◌, ℕ, zero, suc, ◌<◌, true, Option, None, Some, List, [], ◌∷◌, ◌++◌, refl, sym, ◌∙◌, ap, subst, arith, append-nil, cond, map, inl, inr}
-use Rattle.std.specs.Prelude.{All, drop, length, slice_get, slice_set, ◌==◌}
+use Rattle.std.proofs.Common.{◌≡◌, ◌≢◌, ℕ, zero, suc, ◌<◌, Option, None, Some, List, [], ◌∷◌, ◌++◌, refl, sym, ◌∙◌, ap, subst, arith, append-nil, cond, map, inl, inr}
+use Rattle.std.specs.Prelude.{length, slice_get, slice_set}
 use Rattle.std.specs.List.{insert, remove}
 use Rattle.std.specs.Option.{option_map}
-use Rattle.std.proofs.lemmas.Bool.{cases_eq, eq-eqb, ne_eqb}
+use Rattle.std.proofs.lemmas.Bool.{cases_eq, ne_eqb}
 use Rattle.std.proofs.lemmas.List.{map-append}
-use Rattle.std.proofs.lemmas.List.Elements.{All-nil, All-cons, All-head, All-tail, filter-append}
+use Rattle.std.proofs.lemmas.List.Elements.{All-nil, All-cons}
 use Rattle.guest_base.specs.declared.transfer.SlotRun.{SlotRun}
 use Rattle.event_core.specs.declared.boot.Boot.{Boot}
 use Rattle.event_core.specs.declared.entry.Entry.{Entry}
 use Rattle.event_core.specs.Claims.{Claimed, claim_of, claim_step}
 use Rattle.event_core.specs.Calls.{calls_of}
 use Rattle.event_core.specs.Legal.{bare}
-use Rattle.event_core.specs.Moved.{Moved, made_by}
+use Rattle.event_core.specs.Moved.{Moved}
 use Rattle.event_core.specs.Parted.{Fixed, Part}
-use Rattle.event_core.proofs.RisingLemmas.{filter-at}
 use Rattle.event_core.proofs.StandingLemmas.{claim_of-push}
 use Rattle.pool_laws.specs.Live.{live_of}
 use Rattle.pool_laws.proofs.LiveLemmas.{live-of-other}
 use Rattle.claim_lock.specs.declared.known.Known.{Known}
 use Rattle.claim_lock.specs.Knows.{Finds, MayGive, IsOf, left_known}
 use Rattle.claim_lock.specs.Seen.{LockSeen, PassSeen}
+use Rattle.claim_lock.proofs.Found.{own_left}
 use Rattle.io_areas.specs.Away.{FoundAgain as AreaAgain}
 use Rattle.io_areas.specs.UnderLock.{fixed_of as fixed_area, part_of as part_area, moved_of as moved_area}
 use Rattle.io_areas.specs.Value.{AreaValue}
@@ -31,29 +31,12 @@ use Rattle.memory_core.proofs.UnderLockLemmas.{found-again as memory-found-again
 use Rattle.guest_steps.specs.Ground.{FoundAgain, Ground, with_area, with_memory}
 use Rattle.guest_steps.specs.Seen.{Seen}
 use Rattle.guest_steps.specs.Steps.{AreaRoomAlone, MakesInArea, MakesInMemory, RoomAlone, without_reply}
+use Rattle.guest_steps.proofs.ListLemmas.{slice_get-set_other, slice_get-set_same}
 use Rattle.guest_threads.specs.Seated.{Holds, HoldsArea, HoldsAreas, HoldsMemory, KnowsLeft}
 
 -- What a processor knows of what it left under a lock, and what it may do there.
 
 module _ {S : Type 0} (fixed : S → Fixed) (part : S → ℕ → Part) (moved : S → List Moved) where
-  -- what a state has of a processor is what the processor made, when it gives the state back
-  own-kept : (known : Known) (taken left : S) → Finds fixed part moved known taken → MayGive fixed part moved known.number taken left → made_by known.number (moved left) ≡ (left_known part moved known taken left).own
-  own-kept known taken left finds gives =
-      let new = gives.only_added.0 in
-      ap (made_by known.number) gives.only_added.1
-      ∙ filter-append (λ (m : Moved). m.entry.cpu.0 == known.number) (moved taken) new
-      ∙ ap (λ ms. ms ++ made_by known.number new) finds.own_alone
-      ∙ ap (λ ms. known.own ++ ms) (all-his known.number new gives.only_added.2 ∙ sym (ap (drop (length (moved taken))) gives.only_added.1 ∙ behind (moved taken) new))
-    where
-      all-his : (cpu : ℕ) (ms : List Moved) → All (IsOf cpu) ms → made_by cpu ms ≡ ms
-      all-his cpu [] all = refl
-      all-his cpu (m ∷ ms) all =
-          filter-at (λ (x : Moved). x.entry.cpu.0 == cpu) m ms true (eq-eqb m.entry.cpu.0 cpu (All-head (IsOf cpu) m ms all)) ∙ ap (λ xs. m ∷ xs) (all-his cpu ms (All-tail (IsOf cpu) m ms all))
-
-      behind : (xs ys : List Moved) → drop (length xs) (xs ++ ys) ≡ ys
-      behind [] ys = refl
-      behind (x ∷ xs) ys = behind xs ys
-
   -- the same processor, at the same lock
   pub holds-kept : (lock : LockSeen) (pass : PassSeen) (left : S) (old new : Seen) → Holds fixed part moved lock pass left old → new.number ≡ old.number → new.boot ≡ old.boot → Holds fixed part moved lock pass left new
   holds-kept lock pass left old new h number boot = record {
@@ -79,7 +62,7 @@ module _ {S : Type 0} (fixed : S → Fixed) (part : S → ℕ → Part) (moved :
               as_given = sym (gives'.same_fixed ∙ finds.as_given);
               as_left = refl;
               all_seen = refl;
-              own_alone = sym (own-kept pass.known found after finds gives');
+              own_alone = sym (own_left fixed part moved pass.known.number found after gives' pass.known refl finds);
             });
       }
 
@@ -197,18 +180,6 @@ length-set [] n x = refl
 length-set (y ∷ ys) zero x = refl
 length-set (y ∷ ys) (suc n) x = ap suc (length-set ys n x)
 
-pub set-got : {X : Type 0} (xs : List X) (n : ℕ) (y x : X) → slice_get xs n ≡ Some y → slice_get (slice_set xs n x) n ≡ Some x
-set-got [] n y x at = cc
-set-got (z ∷ zs) zero y x at = refl
-set-got (z ∷ zs) (suc n) y x at = set-got zs n y x at
-
-pub set-other : {X : Type 0} (xs : List X) (n k : ℕ) (x : X) → n ≢ k → slice_get (slice_set xs n x) k ≡ slice_get xs k
-set-other [] n k x differ = refl
-set-other (z ∷ zs) zero zero x differ = absurd (differ refl)
-set-other (z ∷ zs) zero (suc k) x differ = refl
-set-other (z ∷ zs) (suc n) zero x differ = refl
-set-other (z ∷ zs) (suc n) (suc k) x differ = set-other zs n k x (λ same. differ (ap suc same))
-
 pub set-twice : {X : Type 0} (xs : List X) (n : ℕ) (x y : X) → slice_set (slice_set xs n x) n y ≡ slice_set xs n y
 set-twice [] n x y = refl
 set-twice (z ∷ zs) zero x y = refl
@@ -224,8 +195,8 @@ over-area cpu base was found at again = record {
       | inl here ↦
           (let at' : slice_get base.areas n ≡ Some was = subst (λ k. slice_get base.areas k ≡ Some was) (sym again.number ∙ here) at in
           let same = got-same (slice_get base.areas n) was x at' got in
-          (found, subst (λ k. slice_get (slice_set base.areas found.number found) k ≡ Some found) here (set-got base.areas found.number was found (subst (λ k. slice_get base.areas k ≡ Some was) (sym again.number) at)), subst (λ (a : AreaValue). AreaAgain cpu a found) same again))
-      | inr other ↦ (x, set-other base.areas found.number n found other ∙ got, area-same cpu x)
+          (found, subst (λ k. slice_get (slice_set base.areas found.number found) k ≡ Some found) here (slice_get-set_same base.areas found.number was found (subst (λ k. slice_get base.areas k ≡ Some was) (sym again.number) at)), subst (λ (a : AreaValue). AreaAgain cpu a found) same again))
+      | inr other ↦ (x, slice_get-set_other base.areas found.number n found (λ same. other (sym same)) ∙ got, area-same cpu x)
     ];
   };
 }
@@ -247,7 +218,7 @@ areas-set locks passes areas c n lock pass area h at holds = record {
   passes_count = length-set passes n pass ∙ h.passes_count ∙ sym (length-set areas n area);
   each = λ k l p a got_l got_p got_a. elim (cases_eq n k) [
     | inl here ↦ set-here k l p a here got_l got_p got_a
-    | inr other ↦ h.each k l p a got_l (sym (set-other passes n k pass other) ∙ got_p) (sym (set-other areas n k area other) ∙ got_a)
+    | inr other ↦ h.each k l p a got_l (sym (slice_get-set_other passes n k pass (λ same. other (sym same))) ∙ got_p) (sym (slice_get-set_other areas n k area (λ same. other (sym same))) ∙ got_a)
   ];
 }
   where

@@ -24,7 +24,7 @@ use Rattle.guest_threads.specs.declared.places.Place.{Place as Seat}
 use Rattle.guest_threads.specs.Places.{HasPasses, IsFinished, IsRefused, RanAt, RanBy, SeatedAt, SeatedBy, passes_at, processors_at}
 use Rattle.guest_threads.specs.Seated.{AllSeated, AllSeen, EachSeated, IsWorn, seen_in}
 use Rattle.guest_threads.proofs.LockLemmas.{got-from-all, got-mapped, mapped-got}
-use Rattle.guest_threads.proofs.SeatLemmas.{greatest-last}
+use Rattle.memory_core.proofs.UnderLockLemmas.{greatest-last}
 
 -- What came of the runs at all places.
 
@@ -237,7 +237,7 @@ abbrev pub StampsSmall : Seen → Ground → Type 0
 StampsSmall c base = (stamp_before c base.memory < 2 ^ 64) × ((area : AreaValue) → HasArea base area → stamp_in c area < 2 ^ 64)
 
 small-there : (boot : Boot) (c : Seen) (base : Ground) → IsGroundOf boot base → StampsSmall c base → (place : Place) → max (greatest_stamp c.moved) (greatest_stamp (there_in base place)) < 2 ^ 64
-small-there boot c base same small Memory = let last = greatest-last 0 base.memory.entries in let low = small.0 in omega (arith, last, low)
+small-there boot c base same small Memory = let last = greatest-last base.memory.entries in let low = small.0 in omega (arith, last, low)
 small-there boot c base same small Own = let low = small.0 in omega (arith, low)
 small-there boot c base same small (Area n) = elim (slice_get_cases base.areas n).1 [
   | inl a ↦

@@ -1,10 +1,9 @@
 use Rattle.std.proofs.Common.{◌≡◌, ℕ, ◌≤◌, ◌<◌, ◌^◌, max, Option, None, Some, Result, Ok, Err, List, [], ◌∷◌, ◌++◌, refl, sym, ◌∙◌, ap, subst, append-nil, append_assoc, arith, inl, inr, OnErr, OnOk}
-use Rattle.std.specs.Prelude.{fold, get_or, length, map, slice_get, slice_set, ◌≢◌}
+use Rattle.std.specs.Prelude.{get_or, length, slice_get, slice_set, ◌≢◌}
 use Rattle.std.specs.Option.{option_map_or}
 use Rattle.std.proofs.lemmas.Option.{slice_get_cases, slice_get_read, slice_get_within}
 use Rattle.event_core.specs.declared.clock.NoRoom.{NoRoom}
 use Rattle.event_core.specs.declared.clock.NoRoom.TheVariants.{Worn}
-use Rattle.event_core.specs.declared.entry.Entry.{Entry}
 use Rattle.event_core.specs.declared.entry.Place.{Place}
 use Rattle.event_core.specs.declared.entry.Place.TheVariants.{Memory, Area, Own}
 use Rattle.event_core.specs.Legal.{greatest_stamp}
@@ -16,7 +15,7 @@ use Rattle.io_areas.specs.UnderLock.{fixed_of as fixed_area, part_of as part_are
 use Rattle.io_areas.specs.Value.{AreaValue}
 use Rattle.memory_core.specs.Away.{WaitingFalls}
 use Rattle.memory_core.specs.Steps.{last_stamp}
-use Rattle.memory_core.specs.UnderLock.{fixed_of, part_of, moved_of, unmoved}
+use Rattle.memory_core.specs.UnderLock.{fixed_of, part_of, moved_of}
 use Rattle.memory_core.specs.Value.{MemoryValue}
 use Rattle.guest_steps.specs.declared.processor.Stepped.{Stepped}
 use Rattle.guest_steps.specs.declared.processor.Stepped.TheVariants.{Event, Blocked}
@@ -30,7 +29,9 @@ use Rattle.guest_threads.specs.declared.locks.Locks.{Locks}
 use Rattle.guest_threads.specs.declared.locks.Passes.{Passes}
 use Rattle.guest_threads.specs.Progress.{IsSame, Progresses, gone_on}
 use Rattle.guest_threads.specs.Seated.{Ended, HoldsArea, HoldsAreas, HoldsMemory, Ran, Seated, seen_in}
-use Rattle.guest_threads.proofs.HoldLemmas.{area-again, area-gives, area-gives-room, areas-kept, areas-set, holds-given, holds-kept, memory-again, memory-gives, memory-gives-room, over-area, over-memory, set-got, set-twice}
+use Rattle.memory_core.proofs.UnderLockLemmas.{greatest-last}
+use Rattle.guest_steps.proofs.ListLemmas.{slice_get-set_same}
+use Rattle.guest_threads.proofs.HoldLemmas.{area-again, area-gives, area-gives-room, areas-kept, areas-set, holds-given, holds-kept, memory-again, memory-gives, memory-gives-room, over-area, over-memory, set-twice}
 
 -- A processor that takes a lock, makes a step and gives the lock back.
 
@@ -218,7 +219,7 @@ module _ {T : Type 0} (seen : T → Seen) (stands : T → Ground → Type 0) (Ne
   area-found locks passes c s n lock pass found seat finds =
       let again = area-again lock pass seat.was found (seen c) seat.holds finds in (
         again.number ∙ seat.number,
-        set-got s.left.areas found.number seat.was found (subst (λ k. slice_get s.left.areas k ≡ Some seat.was) (sym again.number) seat.has),
+        slice_get-set_same s.left.areas found.number seat.was found (subst (λ k. slice_get s.left.areas k ≡ Some seat.was) (sym again.number) seat.has),
         left_standing c s.left (with_area s.left found) s.standing (over-area (seen c).number s.left seat.was found seat.has again),
       )
 
@@ -276,11 +277,6 @@ module _ {T : Type 0} (seen : T → Seen) (stands : T → Ground → Type 0) (Ne
 
 -- ---- an end
 
--- the memory's last stamp is the greatest of its entries
-pub greatest-last : (from : ℕ) (entries : List Entry) → fold (λ greatest (m : Moved). max greatest m.entry.stamp) from (map unmoved entries) ≡ fold (λ last (e : Entry). max last e.stamp) from entries
-greatest-last from [] = refl
-greatest-last from (e ∷ es) = greatest-last (max from e.stamp) es
-
 -- a step of the memory that was refused
 pub refused-ended : (old new : Seen) (left : Passes) (known : Known) (taken before after : MemoryValue) (refusal : NoRoom) → left.memory.known ≡ left_known part_of moved_of known taken after → (new ≡ old) × RoomAlone before after × (old.out ≡ None)
     → ((stamp : ℕ) → (let answer : Result Stepped NoRoom = Err refusal in answer) ≡ Err (Worn stamp) → (2 ^ 64 ≤ stamp) × (stamp ≡ stamp_before old before)) → Ended new left (Err refusal)
@@ -294,7 +290,7 @@ refused-ended old new left known taken before after refusal is_known refused wor
         place = Memory;
         stands = w.1 ∙ ap (λ (c : Seen). max (greatest_stamp c.moved) (last_stamp before.entries)) (sym refused.0)
             ∙ ap (λ es. max (greatest_stamp new.moved) (last_stamp es)) (sym refused.1.entries)
-            ∙ ap (max (greatest_stamp new.moved)) (sym (greatest-last 0 after.entries))
+            ∙ ap (max (greatest_stamp new.moved)) (sym (greatest-last after.entries))
             ∙ ap (λ (k : Known). max (greatest_stamp new.moved) (greatest_stamp k.seen)) (sym is_known);
       };
 }
@@ -326,7 +322,7 @@ area-refused old new passes left n pass given known taken before after refusal n
   worn = λ stamp is.
       let w = worn stamp (ap (λ x. Err x) (let same : refusal ≡ Worn stamp = cc in same)) in
       let found : seen_in left (Area n) ≡ before.moved =
-      ap (λ o. option_map_or (λ (p : PassSeen). p.known.seen) o []) (ap (λ ps. slice_get ps n) areas ∙ set-got passes.areas.items n pass given got) ∙ ap (λ (k : Known). k.seen) is_known ∙ refused.1.moved in
+      ap (λ o. option_map_or (λ (p : PassSeen). p.known.seen) o []) (ap (λ ps. slice_get ps n) areas ∙ slice_get-set_same passes.areas.items n pass given got) ∙ ap (λ (k : Known). k.seen) is_known ∙ refused.1.moved in
       record {
         great = w.0;
         place = Area n;

@@ -8,6 +8,3 @@ mod told;
 mod words;
 
 pub use words::{MAX_SCRIPTS, Names, read_words};
-
-#[cfg(test)]
-mod tests;

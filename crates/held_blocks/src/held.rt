@@ -2,21 +2,15 @@
 ghost use Rattle.std.specs.Prelude.{◌≡◌, [], ◌∷◌, Some, true, false, ◌+◌, ◌<◌, ◌≤◌, length, IfOk, OnOk, OnErr};
 ghost use Rattle.std.specs.Option.{ForSome, IsSome, option_map};
 ghost use Rattle.std.specs.List.{repeat};
-ghost use Rattle.block_laws.specs.BlockScripts.{IsOfBlocks};
-ghost use Rattle.event_core.specs.declared.boot.Boot.{Boot};
 ghost use Rattle.event_core.specs.declared.event.Event.TheVariants.{Got};
 ghost use Rattle.event_core.specs.Bytes.{row_of};
 ghost use Rattle.event_core.specs.Holdings.{block_bytes, block_named};
 ghost use Rattle.event_core.specs.Own.{after_alloc, with_bytes_at, without_block};
 ghost use Rattle.event_core.specs.OwnRows.{is_inside, strayed_bytes};
-ghost use Rattle.event_core.specs.Refusals.{refusal_of};
 ghost use Rattle.held_blocks.specs.Held.{blocks_of, bytes_held, holding, holding_in, owned, is_held, write_room, AreApart, EndsWithin, IsInMemory};
 
 use crate::kept::{KeptBlock, drop_named, ends_inside, place_in, place_of};
-use crate::refusals::{
-    refuse_bytes, refuse_load, refuse_range, refuse_span, refuse_taken, refuse_unknown,
-};
-use event_core::{Command, Name, Reply};
+use event_core::Name;
 use guest_base::{Block, Bytes};
 use sparse_bytes::SparseBytes;
 use std::alloc::{AllocError, Global};
@@ -86,26 +80,6 @@ impl HeldBlocks {
         match place_of(&self.kept, name) {
             Some(at) => &self.kept[at],
             None => unreachable!(),
-        }
-    }
-
-    /// The refusal of a command on a range of memory, or on a block and its bytes. None exactly where it isn't refused.
-    pub fn refusal(&self, command: &Command) -> Option<Reply>
-        requires { IsOfBlocks command.now }
-        ensures { (boot : Boot) → result ≡ refusal_of boot (owned self.now) command.now }
-    {
-        match command {
-            Command::Alloc { name, .. } => refuse_taken(self.block_of(name)),
-            Command::Free { name } => refuse_unknown(self.block_of(name)),
-            Command::Accept { start, len } => refuse_range(*start, *len),
-            Command::Query { start, len } => refuse_range(*start, *len),
-            Command::Read { name, off, len } => refuse_span(self.block_of(name), *off, *len),
-            Command::Write { name, off, hex } => {
-                refuse_bytes(self.block_of(name), *off, hex.len())
-            }
-            Command::Fill { name, off, len, .. } => { refuse_span(self.block_of(name), *off, *len) }
-            Command::Load { name, off } => refuse_load(self.block_of(name), *off),
-            _ => unreachable!(),
         }
     }
 

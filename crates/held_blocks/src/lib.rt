@@ -11,6 +11,3 @@ mod refusals;
 
 pub use held::HeldBlocks;
 pub use holdings::Holdings;
-
-#[cfg(test)]
-mod tests;

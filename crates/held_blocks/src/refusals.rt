@@ -39,16 +39,6 @@ pub(crate) fn refuse_taken(held: Option<Block>) -> Option<Reply>
     }
 }
 
-/// The refusal of a name that has no block.
-pub(crate) fn refuse_unknown(held: Option<Block>) -> Option<Reply>
-    ensures { result ≡ unknown_or held (λ _. None) }
-{
-    match held {
-        Some(_) => None,
-        None => Some(Reply::Unknown),
-    }
-}
-
 /// Whether a range passes the end of what it lies in, of this many bytes.
 fn passes(size: u64, off: u64, len: u64) -> bool
     ensures { result ≡ nat_lt size (off + len) }

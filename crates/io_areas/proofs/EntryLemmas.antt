@@ -1,16 +1,14 @@
 -- The entries of an area with the bytes that they moved, and one more.
-use Rattle.std.proofs.Common.{◌≡◌, ℕ, ◌+◌, ◌≤◌, List, [], ◌∷◌, ◌++◌, refl, sym, ◌∙◌, ap, subst, inl, arith, length, max}
-use Rattle.std.specs.Prelude.{All, fold, Vec}
+use Rattle.std.proofs.Common.{◌≡◌, ℕ, ◌+◌, ◌≤◌, List, [], ◌∷◌, ◌++◌, refl, sym, ◌∙◌, ap, subst, arith, length, max}
+use Rattle.std.specs.Prelude.{fold, Vec}
 use Rattle.std.specs.declared.alloc.Global.{Global}
 use Rattle.std.proofs.lemmas.List.{length_push}
-use Rattle.std.proofs.lemmas.List.Elements.{All-nil, All-cons}
-use Rattle.std.proofs.lemmas.List.Quantifiers.{all_pairs_push}
 use Rattle.std.proofs.lemmas.List.Sums.{fold-append}
 use Rattle.event_core.specs.declared.entry.Entry.{Entry}
 use Rattle.event_core.specs.Legal.{ComesBefore, greatest_stamp}
 use Rattle.event_core.specs.Locally.{Rising}
 use Rattle.event_core.specs.Moved.{Moved, entries_of}
-use Rattle.event_core.proofs.RisingLemmas.{pairs-nil}
+use Rattle.event_core.proofs.RisingLemmas.{greatest, pairs-nil, rising-push}
 use Rattle.io_areas.specs.Transfers.{with_bytes, TransfersStand}
 
 pub with-bytes-push : (es : List Entry) (bs : List (List ℕ)) (m : Moved) → length es ≡ length bs → with_bytes (es ++ m.entry ∷ []) (bs ++ m.bytes ∷ []) ≡ with_bytes es bs ++ m ∷ []
@@ -37,31 +35,15 @@ with-bytes-none = refl
 
 -- ---- stamps
 
-abbrev greatest : ℕ → List Entry → ℕ
-greatest from entries = fold (λ last (e : Entry). max last e.stamp) from entries
-
 greatest-same : (from : ℕ) (es : List Entry) (bs : List (List ℕ)) → length es ≡ length bs → fold (λ last (m : Moved). max last m.entry.stamp) from (with_bytes es bs) ≡ greatest from es
 unfolding with_bytes
 greatest-same from [] bs same = refl
 greatest-same from (e ∷ es) [] same = absurd (omega (arith, same))
 greatest-same from (e ∷ es) (b ∷ bs) same = greatest-same (max from e.stamp) es bs (omega (arith, same))
 
-greatest-from : (from : ℕ) (entries : List Entry) → from ≤ greatest from entries
-greatest-from from [] = omega arith
-greatest-from from (e ∷ es) = let more = greatest-from (max from e.stamp) es in omega (arith, more)
-
--- no stamp is above the last one
-below-last : (from : ℕ) (entries : List Entry) → All (λ (e : Entry). e.stamp ≤ greatest from entries) entries
-below-last from [] = All-nil (λ (e : Entry). e.stamp ≤ from)
-below-last from (e ∷ es) =
-    let more = greatest-from (max from e.stamp) es in
-    All-cons (λ (x : Entry). x.stamp ≤ greatest (max from e.stamp) es) e es (omega (arith, more)) (below-last (max from e.stamp) es)
-
 -- an entry whose stamp is above the last one comes behind them all
-pub rising-push : (es : List Entry) (bs : List (List ℕ)) (e : Entry) (last : ℕ) → length es ≡ length bs → last ≡ greatest_stamp (with_bytes es bs) → last + 1 ≤ e.stamp → Rising es → Rising (es ++ e ∷ [])
-rising-push es bs e last same is above rises =
-    let here : last ≡ greatest 0 es = is ∙ greatest-same 0 es bs same in
-    all_pairs_push ComesBefore es e rises (λ k d inside. inl (let low = below-last 0 es k d inside in omega (arith, low, here, above)))
+rising-more : (es : List Entry) (bs : List (List ℕ)) (e : Entry) (last : ℕ) → length es ≡ length bs → last ≡ greatest_stamp (with_bytes es bs) → last + 1 ≤ e.stamp → Rising es → Rising (es ++ e ∷ [])
+rising-more es bs e last same is above rises = let here = greatest-same 0 es bs same in rising-push es e (omega (arith, is, here, above)) rises
 
 -- the greatest stamp with one more entry
 greatest-push : (moved : List Moved) (m : Moved) → greatest_stamp (moved ++ m ∷ []) ≡ max (greatest_stamp moved) m.entry.stamp
@@ -98,7 +80,7 @@ stands-more entries entries' moves moves' spare spare' last last' room m more-en
       last_is =
           (let greater : last' ≡ max last m.entry.stamp = omega (arith, last_is, above) in
           greater ∙ ap (λ n. max n m.entry.stamp) is ∙ sym (ap greatest_stamp moved ∙ greatest-push (with_bytes es bs) m));
-      rising = subst Rising (sym more-entries) (rising-push es bs m.entry last beside is above stand.rising);
+      rising = subst Rising (sym more-entries) (rising-more es bs m.entry last beside is above stand.rising);
       empty = empty;
       entry_room = λ some. absurd (omega (arith, some));
       move_room = λ some. absurd (omega (arith, some));

@@ -4,4 +4,3 @@ pub mod SlotLemmas
 pub mod StepLemmas
 pub mod UnderLockLemmas
 pub mod Sent
-pub mod TestLemmas

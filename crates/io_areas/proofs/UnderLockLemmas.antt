@@ -1,8 +1,8 @@
-use Rattle.std.proofs.Common.{◌≡◌, ◌≢◌, ℕ, true, false, None, List, [], ◌∷◌, ◌++◌, refl, sym, ◌∙◌, ap, append-nil, append_assoc, inl, inr}
+use Rattle.std.proofs.Common.{◌≡◌, ◌≢◌, ℕ, true, false, None, List, [], ◌∷◌, ◌++◌, refl, sym, ◌∙◌, ap, append-nil, inl, inr}
 use Rattle.std.specs.Prelude.{All, ◌==◌}
 use Rattle.std.proofs.lemmas.Bool.{cases_eq, eq-eqb, ne_eqb}
 use Rattle.std.proofs.lemmas.List.{append_cancel_left}
-use Rattle.std.proofs.lemmas.List.Elements.{All-nil, All-cons, All-head, All-tail, All-append, filter-append}
+use Rattle.std.proofs.lemmas.List.Elements.{All-nil, All-cons, All-head, All-tail, filter-append}
 use Rattle.guest_base.specs.declared.transfer.SlotRun.{SlotRun}
 use Rattle.event_core.specs.declared.entry.Turn.{Turn}
 use Rattle.event_core.specs.declared.event.Event.{Event}
@@ -15,7 +15,7 @@ use Rattle.claim_lock.specs.Knows.{Finds, MayGive, IsOf}
 use Rattle.claim_lock.specs.declared.known.Known.{Known}
 use Rattle.io_areas.specs.contracts.area.AreaParted.TheImpl.{ghosts}
 use Rattle.io_areas.specs.Away.{FoundAgain}
-use Rattle.io_areas.specs.UnderLock.{fixed_of, part_of, moved_of}
+use Rattle.io_areas.specs.UnderLock.{fixed_of, part_of}
 use Rattle.io_areas.specs.Value.{AreaValue, Appends, entry_by}
 
 -- What the lock of an area asks for and gives, for the crates above.
@@ -53,18 +53,6 @@ may-give-still cpu old new number slots moved = record {
   same_fixed = fixed-same old new number slots;
   same_others = λ other differ. part-same old new other (ap (live_of other) moved);
   only_added = ([], moved ∙ sym (append-nil old.moved), All-nil (IsOf cpu));
-}
-
--- several calls, one after another
-pub may-give-both : (cpu : ℕ) (a b c : AreaValue) → MayGiveBack cpu a b → MayGiveBack cpu b c → MayGiveBack cpu a c
-may-give-both cpu a b c first then = record {
-  same_fixed = then.same_fixed ∙ first.same_fixed;
-  same_others = λ other differ. then.same_others other differ ∙ first.same_others other differ;
-  only_added = (
-    first.only_added.0 ++ then.only_added.0,
-    then.only_added.1 ∙ ap (λ ms. ms ++ then.only_added.0) first.only_added.1 ∙ append_assoc (moved_of a) first.only_added.0 then.only_added.0,
-    All-append (IsOf cpu) first.only_added.0 then.only_added.0 first.only_added.2 then.only_added.2,
-  );
 }
 
 -- ---- what a processor finds when it takes the lock again

@@ -3,13 +3,13 @@ use Rattle.guest_base.specs.declared.limits.TheConstants.{SLOT_BYTES, SEGMENT_SL
 use Rattle.guest_base.specs.declared.transfer.Request.{Request}
 use Rattle.guest_base.specs.declared.transfer.SlotRun.{SlotRun}
 use Rattle.event_core.specs.declared.boot.Boot.{Boot}
-use Rattle.event_core.specs.declared.entry.Place.TheVariants as place
 use Rattle.event_core.specs.declared.entry.Turn.{Turn}
 use Rattle.event_core.specs.declared.event.Event.{Event}
 use Rattle.event_core.specs.Legal.{greatest_stamp}
 use Rattle.event_core.specs.Moved.{Moved}
 use Rattle.event_core.specs.Pool.{area_slots}
 use Rattle.pool_laws.specs.Live.{is_live, live_of}
+use Rattle.io_areas.specs.Transfers.{bare_by}
 
 -- What contracts see of an area of the pool, and what its steps do.
 
@@ -27,17 +27,8 @@ HasSizeOf boot area = area_slots boot ≡ area.slots
 
 -- a bare entry that a processor makes under the area's lock, with the bytes that it moves
 abbrev pub entry_by : AreaValue → Turn → Event → List ℕ → Moved
-entry_by area turn event bytes = record {
-  entry = record {
-    stamp = max turn.clock (greatest_stamp area.moved) + 1;
-    cpu = turn.cpu;
-    cmd = turn.cmd;
-    place = place.Area area.number;
-    event = event;
-    reply = None;
-  };
-  bytes = bytes;
-}
+entry_by area turn event bytes =
+    bare_by area.number (greatest_stamp area.moved) turn event bytes
 
 -- a step may be made that moves this many bytes: stamps are left, and there is room
 pub record MayStep (area : AreaValue) (turn : Turn) (bytes : ℕ) : Type 0 where

@@ -2,8 +2,6 @@
 #![tactic(auto)]
 
 mod area;
-#[cfg(test)]
-mod tests;
 mod transfers;
 
 pub use area::Area;

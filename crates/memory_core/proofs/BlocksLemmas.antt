@@ -27,6 +27,7 @@ use Rattle.event_core.specs.MemoryRows.{run_of_claim}
 use Rattle.event_laws.specs.Coming.{BootMade}
 use Rattle.block_allocator.specs.State.{State, is_free, waits, page_waits, IsBlock, IsLowestWaiting, Takes, MayPut}
 use Rattle.event_core.specs.Calls.{calls_of}
+use Rattle.event_core.proofs.BlockLemmas.{first-state, none-owned}
 use Rattle.event_core.proofs.StandingLemmas.{claim_of-push}
 use Rattle.block_laws.proofs.FitFacts.{Fits, IsPicked}
 use Rattle.block_laws.proofs.HeldFacts.{picked-free}
@@ -110,10 +111,6 @@ waits-here boot memory block has is =
 
 -- ---- the states of blocks (for `Settled.states`)
 
-first-state : (boot : Boot) (block : Block) → block_state boot [] block ≡ cond (waits_at_boot boot block) Waits Loose
-unfolding block_state
-first-state boot block = refl
-
 waits-ten : (boot : Boot) (block : Block) → waits_at_boot boot block ≡ true → block.order ≡ 10
 unfolding waits_at_boot
 waits-ten boot block is =
@@ -121,10 +118,6 @@ waits-ten boot block is =
       | inl t ↦ eqb-true block.order 10 t
       | inr f ↦ (let no : waits_at_boot boot block ≡ false = rw (f, waits_at_boot) refl in absurd (true-false (waits_at_boot boot block) is no))
     ]
-
-none-owned : (page : ℕ) → is_owned [] page ≡ false
-unfolding is_owned
-none-owned page = refl
 
 pub states-first : (boot : Boot) → StatesStand boot []
 states-first boot = record {

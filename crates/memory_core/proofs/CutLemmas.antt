@@ -2,7 +2,7 @@
 use Rattle.std.proofs.Common.{◌≡◌, ◌≢◌, ℕ, zero, suc, ◌+◌, ◌-◌, ◌%◌, ◌^◌, ◌<◌, ◌≤◌, Bool, true, false, Option, None, Some, List, [], ◌∷◌, length, get_or, refl, sym, ◌∙◌, ap, subst, inl, inr, cond, arith}
 use Rattle.std.specs.Prelude.{Contains, find}
 use Rattle.std.specs.List.{AllByRecursion, flat_map}
-use Rattle.std.proofs.lemmas.Bool.{cases_Bool, cases_lt}
+use Rattle.std.proofs.lemmas.Bool.{cases_Bool}
 use Rattle.std.proofs.lemmas.Nat.{pow_pos}
 use Rattle.std.proofs.lemmas.List.Elements.{All-contains, All-contains_itself, Contains-get_or, All-from_recursion, recursion_from_All}
 use Rattle.guest_base.specs.declared.limits.TheConstants.{MAX_ORDER, PAGE_END}
@@ -12,10 +12,10 @@ use Rattle.guest_base.specs.declared.memory.PageState.{PageState}
 use Rattle.guest_base.proofs.RangeLemmas.{in_range-intro, in_range-elim, in_range-past}
 use Rattle.event_core.specs.declared.boot.Boot.{Boot}
 use Rattle.event_core.specs.Absent.{in_block}
-use Rattle.event_core.specs.Cut.{ram_ranges, without_pool, order_at, blocks_from, blocks_of, cut}
+use Rattle.event_core.specs.Cut.{ram_ranges, without_pool, blocks_of, cut}
 use Rattle.event_core.specs.Runs.{state_in}
 use Rattle.event_core.proofs.BootFacts.{ram-low}
-use Rattle.event_core.proofs.CutFacts.{order-most, blocks-none, blocks-some}
+use Rattle.event_core.proofs.CutFacts.{blocks-orders}
 use Rattle.event_laws.specs.Coming.{BootMade}
 use Rattle.event_laws.proofs.RiseLemmas.{RiseTo, rise-above, cut-rises}
 use Rattle.block_laws.proofs.CutPages.{CutBlock, cut-pages}
@@ -126,17 +126,6 @@ rise-length from to end (b ∷ bs) low rise ends =
     let first = rise.0 in
     let rest = rise-length (b.first + 2 ^ b.order) to end bs ends.0 rise.2 ends.1 in
     omega (arith, some, first, rest)
-
-blocks-orders : (most first left : ℕ) → AllByRecursion (λ (b : Block). b.order ≤ MAX_ORDER) (blocks_from most first left)
-unfolding blocks_from
-blocks-orders zero first left = tt
-blocks-orders (suc most) first left =
-    elim (cases_lt 0 left) [
-      | inl some ↦
-          subst (AllByRecursion (λ (b : Block). b.order ≤ MAX_ORDER)) (sym (blocks-some most first left (omega (arith, some))))
-          (order-most first left 10, blocks-orders most (first + 2 ^ order_at first left 10) (left - 2 ^ order_at first left 10))
-      | inr none ↦ subst (AllByRecursion (λ (b : Block). b.order ≤ MAX_ORDER)) (sym (blocks-none (suc most) first left (omega (arith, none)))) tt
-    ]
 
 -- ---- of a boot
 

@@ -13,7 +13,6 @@ use Rattle.guest_base.specs.Ranges.{in_range}
 use Rattle.guest_base.specs.Search.{first_such}
 use Rattle.guest_base.specs.declared.memory.Block.{Block}
 use Rattle.guest_base.specs.declared.memory.Pages.{Pages}
-use Rattle.guest_base.specs.declared.memory.PageRun.{PageRun}
 use Rattle.guest_base.proofs.BlockFacts.{lowest_here, lowest_above, lowest_nothing}
 use Rattle.guest_base.proofs.RangeLemmas.{in_range-intro, in_range-elim}
 use Rattle.guest_base.proofs.SearchLemmas.{first_such-Some}
@@ -27,7 +26,8 @@ use Rattle.event_core.proofs.CutFacts.{order-fits, blocks-none, blocks-some}
 use Rattle.event_core.proofs.EarlyLemmas.{or-cases, or-left, or-right, in_pages}
 use Rattle.event_laws.specs.Coming.{BootMade}
 use Rattle.event_laws.proofs.TurnLemmas.{all-map}
-use Rattle.block_laws.proofs.CutPages.{FromOn, Gapped, IsWhole, all-whole, ram-gapped}
+use Rattle.event_laws.proofs.RiseLemmas.{zero-on}
+use Rattle.block_laws.proofs.CutPages.{Gapped, IsWhole, all-whole, ram-gapped}
 use Rattle.block_laws.proofs.HeldFacts.{picked-free}
 use Rattle.block_laws.proofs.ListFacts.{all-flat, all-with, found-one}
 use Rattle.memory_core.proofs.WaitingLemmas.{loose-is}
@@ -332,10 +332,6 @@ some-pool boot (Some pool) placed =
                 absurd (placed.1.lowest 0 above (λ page h. (let high = (in_range-elim 0 (boot.slots / 2) page h).1 in absurd (omega (arith, high, size, none))))))
           ]
     ]
-
-zero-on : (runs : List PageRun) → FromOn 0 runs
-zero-on [] = tt
-zero-on (run ∷ runs) = omega arith
 
 -- a block of the cut that has the first page of a whole aligned block of the cut's pages holds this block
 pub cut-holds : (boot : Boot) (first order : ℕ) → BootMade boot → order ≤ 10 → first % 2 ^ order ≡ 0 → ((page : ℕ) → first ≤ page → page < first + 2 ^ order → list_any (in_block page) (cut boot) ≡ true) → AllByRecursion (Holds first order) (cut boot)

@@ -1,12 +1,11 @@
 use Rattle.std.proofs.Common.{◌≡◌, ◌≢◌, ℕ, ◌⊎◌, ◌+◌, ◌*◌, ◌^◌, ◌<◌, ◌≤◌, true, false, Option, None, Some, List, [], ◌∷◌, ◌++◌, refl, sym, ◌∙◌, ap, subst, inl, inr, arith, cond, append-nil, append_assoc, length, max, eq-eqb, eqb-true}
-use Rattle.std.specs.Prelude.{All, fold, Vec, vec_capacity, ◌==◌}
+use Rattle.std.specs.Prelude.{All, Vec, vec_capacity, ◌==◌}
 use Rattle.std.specs.declared.alloc.Global.{Global}
 use Rattle.std.proofs.Math.Path.{fun_ext}
 use Rattle.std.proofs.Math.Nat.{mul-le-mul_right}
 use Rattle.std.proofs.lemmas.Bool.{cases_Bool}
 use Rattle.std.proofs.lemmas.List.{length_push, same_from_push}
-use Rattle.std.proofs.lemmas.List.Elements.{All-nil, All-cons, All-pop}
-use Rattle.std.proofs.lemmas.List.Quantifiers.{all_pairs_push}
+use Rattle.std.proofs.lemmas.List.Elements.{All-pop}
 use Rattle.std.proofs.lemmas.List.Sums.{fold-append}
 use Rattle.guest_base.specs.Ranges.{in_range}
 use Rattle.guest_base.specs.declared.memory.Block.{Block}
@@ -19,10 +18,8 @@ use Rattle.event_core.specs.declared.event.Event.TheVariants.{Claim}
 use Rattle.event_core.specs.declared.module_call.ModuleCall.{ModuleCall}
 use Rattle.event_core.specs.Calls.{calls_of}
 use Rattle.event_core.specs.Claims.{Claimed, claim_of, claim_step, opened}
-use Rattle.event_core.specs.Legal.{ComesBefore}
-use Rattle.event_core.specs.Locally.{Rising}
 use Rattle.event_core.specs.MemoryRows.{page_state, pages_first, pages_count}
-use Rattle.event_core.proofs.RisingLemmas.{all-middle}
+use Rattle.event_core.proofs.RisingLemmas.{all-middle, rising-push}
 use Rattle.event_core.proofs.StandingLemmas.{calls_of-push, claim_of-push}
 use Rattle.page_module.specs.Tables.{Table}
 use Rattle.event_core.specs.Table.{Bits}
@@ -85,28 +82,6 @@ claims-closed boot entries turn last block units run free none =
       | inr differ ↦ claim-other boot entries turn last (Claim block units run) cpu differ
     ])
 
--- ---- stamps rise
-
--- the greatest stamp of entries, from a number on
-abbrev greatest : ℕ → List Entry → ℕ
-greatest from entries = fold (λ last (e : Entry). max last e.stamp) from entries
-
-greatest-from : (from : ℕ) (entries : List Entry) → from ≤ greatest from entries
-greatest-from from [] = omega arith
-greatest-from from (e ∷ es) = let more = greatest-from (max from e.stamp) es in omega (arith, more)
-
--- no stamp is above the last one
-below-last : (from : ℕ) (entries : List Entry) → All (λ (e : Entry). e.stamp ≤ greatest from entries) entries
-below-last from [] = All-nil (λ (e : Entry). e.stamp ≤ from)
-below-last from (e ∷ es) =
-    let more = greatest-from (max from e.stamp) es in
-    All-cons (λ (x : Entry). x.stamp ≤ greatest (max from e.stamp) es) e es (omega (arith, more)) (below-last (max from e.stamp) es)
-
--- an entry that a step appends comes behind them all
-rising-push : (entries : List Entry) (turn : Turn) (last : ℕ) (event : Event) → last ≡ last_stamp entries → Rising entries → Rising (entries ++ bare_entry turn last event ∷ [])
-rising-push entries turn last event is rises =
-    all_pairs_push ComesBefore entries (bare_entry turn last event) rises (λ k d inside. inl (let low = below-last 0 entries k d inside in omega (arith, low, is)))
-
 -- ---- the states of the pages of open runs
 
 -- a list is empty, or has a last item
@@ -149,7 +124,7 @@ pub steady-push : (boot : Boot) (entries entries' : List Entry) (turn : Turn) (l
     → Steady boot entries'
 steady-push boot entries entries' turn last event is last_is s falls others =
     subst (Steady boot) (sym is)
-    (record { rising = rising-push entries turn last event last_is s.rising; runs_keep = runs-keep-push boot entries turn last event s.runs_keep others; waiting = falls })
+    (record { rising = rising-push entries (bare_entry turn last event) (omega (arith, last_is)) s.rising; runs_keep = runs-keep-push boot entries turn last event s.runs_keep others; waiting = falls })
 
 -- ---- a step that changes entries and room alone
 

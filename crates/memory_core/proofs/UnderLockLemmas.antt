@@ -1,5 +1,5 @@
 use Rattle.std.proofs.Common.{◌≡◌, ◌≢◌, ℕ, ◌≤◌, max, true, false, Option, None, Some, List, [], ◌∷◌, ◌++◌, refl, sym, ◌∙◌, ap, subst, arith, append-nil, append_assoc, inl, inr, cond, map}
-use Rattle.std.specs.Prelude.{All, IfSome, fold, drop, length, ◌==◌}
+use Rattle.std.specs.Prelude.{IfSome, fold, ◌==◌}
 use Rattle.std.specs.Option.{option_map}
 use Rattle.std.proofs.lemmas.Bool.{cases_eq, eq-eqb, ne_eqb}
 use Rattle.std.proofs.lemmas.List.{append_cancel_left, map-append}
@@ -12,13 +12,14 @@ use Rattle.event_core.specs.declared.event.Event.{Event}
 use Rattle.event_core.specs.declared.module_call.ModuleCall.{ModuleCall}
 use Rattle.event_core.specs.Calls.{calls_of}
 use Rattle.event_core.specs.Claims.{Claimed, claim_of, claim_step}
+use Rattle.event_core.specs.Legal.{greatest_stamp}
 use Rattle.event_core.specs.Moved.{Moved, made_by}
 use Rattle.event_core.specs.Parted.{Fixed, Part}
 use Rattle.event_core.proofs.RisingLemmas.{filter-at}
 use Rattle.event_core.proofs.StandingLemmas.{claim_of-push}
 use Rattle.page_module.specs.Spans.{Taken}
 use Rattle.accept_sizes.specs.declared.accept.RunEnd.{RunEnd}
-use Rattle.claim_lock.specs.Knows.{Finds, MayGive, IsOf, left_known}
+use Rattle.claim_lock.specs.Knows.{Finds, MayGive, IsOf}
 use Rattle.claim_lock.specs.declared.known.Known.{Known}
 use Rattle.memory_core.specs.contracts.memory.MemoryParted.TheImpl.{ghosts}
 use Rattle.memory_core.specs.Answers.{OthersKeep}
@@ -75,38 +76,15 @@ may-give-still cpu old new boot entries out = record {
     all : seen_by new.boot new.entries new.out 0 ≡ seen_by old.boot old.entries old.out 0
     all = ap (λ b. seen_by b new.entries new.out 0) boot ∙ ap (λ es. seen_by old.boot es new.out 0) entries ∙ ap (λ hs. seen_by old.boot old.entries hs 0) out
 
--- several calls, one after another
-pub may-give-both : (cpu : ℕ) (a b c : MemoryValue) → MayGiveBack cpu a b → MayGiveBack cpu b c → MayGiveBack cpu a c
-may-give-both cpu a b c first then = record {
-  same_fixed = then.same_fixed ∙ first.same_fixed;
-  same_others = λ other differ. then.same_others other differ ∙ first.same_others other differ;
-  only_added = (
-    first.only_added.0 ++ then.only_added.0,
-    then.only_added.1 ∙ ap (λ ms. ms ++ then.only_added.0) first.only_added.1 ∙ append_assoc (moved_of a) first.only_added.0 then.only_added.0,
-    All-append (IsOf cpu) first.only_added.0 then.only_added.0 first.only_added.2 then.only_added.2,
-  );
-}
-
 -- ---- what a processor finds when it takes the lock again
 
--- what the memory has of a processor is what the processor made, when it gives the lock back
-pub own-kept : (known : Known) (taken left : MemoryValue) → Finds ghosts.fixed ghosts.part ghosts.moved known taken → MayGiveBack known.number taken left
-    → made_by known.number (ghosts.moved left) ≡ (left_known ghosts.part ghosts.moved known taken left).own
-own-kept known taken left finds gives =
-    let new = gives.only_added.0 in
-    ap (made_by known.number) gives.only_added.1
-    ∙ filter-append (λ (m : Moved). m.entry.cpu.0 == known.number) (moved_of taken) new
-    ∙ ap (λ ms. ms ++ made_by known.number new) finds.own_alone
-    ∙ ap (λ ms. known.own ++ ms) (all-his known.number new gives.only_added.2 ∙ sym (ap (drop (length (moved_of taken))) gives.only_added.1 ∙ behind (moved_of taken) new))
-  where
-    all-his : (cpu : ℕ) (ms : List Moved) → All (IsOf cpu) ms → made_by cpu ms ≡ ms
-    all-his cpu [] all = refl
-    all-his cpu (m ∷ ms) all =
-        filter-at (λ (x : Moved). x.entry.cpu.0 == cpu) m ms true (eq-eqb m.entry.cpu.0 cpu (All-head (IsOf cpu) m ms all)) ∙ ap (λ xs. m ∷ xs) (all-his cpu ms (All-tail (IsOf cpu) m ms all))
+-- the memory's last stamp is the greatest of its entries
+greatest-from : (from : ℕ) (entries : List Entry) → fold (λ greatest (m : Moved). max greatest m.entry.stamp) from (map unmoved entries) ≡ fold (λ last (e : Entry). max last e.stamp) from entries
+greatest-from from [] = refl
+greatest-from from (e ∷ es) = greatest-from (max from e.stamp) es
 
-    behind : (xs ys : List Moved) → drop (length xs) (xs ++ ys) ≡ ys
-    behind [] ys = refl
-    behind (x ∷ xs) ys = behind xs ys
+pub greatest-last : (entries : List Entry) → greatest_stamp (map unmoved entries) ≡ last_stamp entries
+greatest-last entries = greatest-from 0 entries
 
 -- the entries that were added, without their bytes
 added-entries : (all first : List Entry) (rest : List Moved) → map unmoved all ≡ map unmoved first ++ rest → (es : List Entry) × (all ≡ first ++ es) × (rest ≡ map unmoved es)

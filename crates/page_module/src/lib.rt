@@ -15,6 +15,3 @@ pub use port::{Port, answer_without_fault};
 pub use span::Span;
 pub use table::PageTable;
 pub use ticket::Ticket;
-
-#[cfg(test)]
-mod span_tests;

@@ -132,16 +132,3 @@ impl Port for MemPort {
         self.call_for_all(span, CallKind::Give, PageState::Pending)
     }
 }
-
-#[cfg(test)]
-mod tests {
-    use super::*;
-    use std::test::Fail;
-
-    #[test]
-    fn takes_room(rt: HostRuntime) -> Result<(), Fail> {
-        let mut port = MemPort::new(rt.alloc(), Vec::new(rt.alloc()));
-        port.reserve(rt.alloc(), 8)?;
-        Ok(())
-    }
-}

@@ -223,9 +223,9 @@ giveback-looks name e own = refl
 out-looks : (mapping : List ℕ) (off : ℕ) (more : List ℕ) (own : Own) → (copied_out mapping off more own).looks ≡ own.looks
 out-looks mapping off more own = held-looks (λ (m : Mapping). with_bytes_at m.block (m.off + off) more own) (mapping_named own mapping) own (λ m. refl)
 
-sync-looks : (mapping : List ℕ) (at : ℕ) (more : List ℕ) (e : Event) (own : Own) → (after_sync mapping at more e own).looks ≡ own.looks
-sync-looks mapping at more (event.CopiedOut run off len) own = out-looks mapping off more own
-sync-looks mapping at more e own = refl
+sync-looks : (mapping : List ℕ) (more : List ℕ) (e : Event) (own : Own) → (after_sync mapping more e own).looks ≡ own.looks
+sync-looks mapping more (event.CopiedOut run off len) own = out-looks mapping off more own
+sync-looks mapping more e own = refl
 
 unmap-looks : (mapping more : List ℕ) (e : Event) (own : Own) → (after_unmap mapping more e own).looks ≡ own.looks
 unmap-looks mapping more (event.Released run true) own = out-looks mapping 0 more own
@@ -245,7 +245,7 @@ told-looks (Some (command.Share name)) m own plain = share-looks m.entry.event o
 told-looks (Some (command.Private name)) m own plain = private-looks m.entry.event own
 told-looks (Some (command.Giveback name)) m own plain = giveback-looks name m.entry.event own
 told-looks (Some (command.Map mapping name off len direction mask)) m own plain = map-looks mapping name off direction m.entry.event own plain
-told-looks (Some (command.SyncCpu mapping off len)) m own plain = sync-looks mapping off m.bytes m.entry.event own
+told-looks (Some (command.SyncCpu mapping off len)) m own plain = sync-looks mapping m.bytes m.entry.event own
 told-looks (Some (command.Unmap mapping skip)) m own plain = unmap-looks mapping m.bytes m.entry.event own
 told-looks c m own plain = refl
 

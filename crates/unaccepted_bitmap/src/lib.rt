@@ -14,6 +14,3 @@ pub use bitmap::Bitmap;
 pub use fault::{BadBit, TableFault};
 pub use stub::early;
 pub use table::read_table;
-
-#[cfg(test)]
-mod tests;

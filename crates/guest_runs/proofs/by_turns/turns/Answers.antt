@@ -1,71 +1,44 @@
 use denote.Exit.{no}
 use denote.Param.Send.{param_send, arg_send}
 use Rattle.guest_cpu.proofs.Sent.{cpu_send}
-use Rattle.std.proofs.Common.{rules, arith, ◌≡◌, ℕ, Some, List, refl, sym, subst, length, map}
+use Rattle.std.proofs.Common.{arith, ℕ, Some, List, refl, map}
 use Rattle.guest_base.specs.declared.memory.CpuNo.{CpuNo as CpuValue}
-use Rattle.guest_cpu.specs.Standing.{CpuStands, seen_by}
-use Rattle.event_core.specs.declared.boot.Boot.{Boot}
-use Rattle.guest_steps.specs.Running.{AllStand}
-use Rattle.guest_runs.proofs.BeginLemmas.{begin-first, begin-stand, ground_in, world-layout}
-use Rattle.guest_runs.proofs.RunLemmas.{halts-first, kept-first, on-err, turns-have-run}
+use Rattle.guest_runs.proofs.RunLemmas.{turns-have-run}
+use Rattle.guest_runs.specs.OnPorts.{HaveRun}
+use Rattle.guest_runs.proofs.by_turns.turns.Given.{Over}
+use Rattle.guest_runs.proofs.by_turns.turns.Goals.{After-and}
 use Rattle.guest_runs.proofs.by_turns.turns.Goals as goal
 
-pub returns-in_err-left-clause-halted : goal.returns-in_err-left-clause-halted
-returns-in_err-left-clause-halted g c =
-    on-err c.from_residual.result (halts-first g.P.Port.made g.P.Port.faults g.P.Port.never_fails c.args.world c.args.scripts c.args.ports.now.items c.args.ports.now.items c.requires.begins refl)
+abbrev numbers : List CpuValue → List ℕ
+numbers order = map (λ (cpu : CpuValue). cpu.0) order
 
-pub returns-in_err-left-clause-kept : goal.returns-in_err-left-clause-kept
-returns-in_err-left-clause-kept g c = kept-first g.P.Port.made g.P.Port.faults g.P.Port.never_fails (length c.args.scripts) c.args.ports.now.items c.args.ports.now.items refl
-
-pub start_all-requires-clause-pool : goal.start_all-requires-clause-pool
-start_all-requires-clause-pool g c = world-layout c.args.world c.requires.begins.stands
-
-pub returns-in_err-all-clause-halted : goal.returns-in_err-all-clause-halted
-returns-in_err-all-clause-halted g c =
-    on-err c.from_residual-in_err-all.result (halts-first g.P.Port.made g.P.Port.faults g.P.Port.never_fails c.args.world c.args.scripts c.args.ports.now.items c.start_all.new.ports.items c.requires.begins c.in_err-all.ensures.refused)
-
-pub returns-in_err-all-clause-kept : goal.returns-in_err-all-clause-kept
-returns-in_err-all-clause-kept g c = kept-first g.P.Port.made g.P.Port.faults g.P.Port.never_fails (length c.args.scripts) c.args.ports.now.items c.start_all.new.ports.items c.in_err-all.ensures.refused
+-- the processors ran by turns
+has-run : (g : Over) (c : After-and g) → HaveRun g.P.Port.made g.P.Port.faults g.P.Port.never_fails c.args.world c.args.scripts (Some (numbers c.args.order.now)) c.args.ports.now.items c.begin.new.ports.items c.turns-answer.new.processors.items c.and.result
+has-run g c =
+    let t = c.turns-answer.ensures in
+    let b = c.in_ok-all.ensures.begun in
+    turns-have-run g.P.Port.made g.P.Port.faults g.P.Port.never_fails c.args.world c.args.scripts c.args.ports.now.items c.begin.new.ports.items c.in_ok-all.all.items c.turns-answer.new.processors.items c.requires.begins b.before_is b.seen b.count t.later
+    (numbers c.args.order.now) c.turns-answer.result (c.turns-answer.new.memory, c.turns-answer.new.areas) c.and.result t.stand.together t.finished t.turned c.and.ensures
 
 pub turns-answer-requires-send-T : goal.turns-answer-requires-send-T
 turns-answer-requires-send-T g c κs within = param_send _ _ (arg_send _ no _ (cpu_send _ c.type_bounds.send-P))
 
 pub turns-answer-requires-clause-stand : goal.turns-answer-requires-clause-stand
-turns-answer-requires-clause-stand g c κs within =
-    let all = c.in_ok-all.all.items in
-    let e = c.in_ok-all.ensures in
-    let world = c.args.world in
-    let seen = seen_by g.P.Port.made g.P.Port.faults in
-    let stands = CpuStands g.P.Port.made g.P.Port.faults g.P.Port.room in
-    let count : length all ≡ length c.args.scripts = search rules in
-    let S : Boot → Type 0 = λ b. AllStand seen stands b all (ground_in world) in
-    subst S (sym c.requires.begins.stands.same) (begin-stand g.P.Port.made g.P.Port.faults seen stands world c.args.scripts c.args.ports.now.items _ all c.requires.begins e.seen count e.stand)
+turns-answer-requires-clause-stand g c κs within = c.in_ok-all.ensures.begun.stand
 
 pub turns-answer-requires-clause-first : goal.turns-answer-requires-clause-first
-turns-answer-requires-clause-first g c κs within =
-    begin-first g.P.Port.made g.P.Port.faults (seen_by g.P.Port.made g.P.Port.faults) (CpuStands g.P.Port.made g.P.Port.faults g.P.Port.room) c.args.world c.args.scripts c.args.ports.now.items _ c.in_ok-all.all.items c.requires.begins c.in_ok-all.ensures.seen
+turns-answer-requires-clause-first g c κs within = c.in_ok-all.ensures.begun.first
 
 pub turns-answer-requires-clause-order : goal.turns-answer-requires-clause-order
 turns-answer-requires-clause-order g c κs within k d lt =
-    let count : length c.in_ok-all.all.items ≡ length c.args.scripts = search rules in
+    let count = c.in_ok-all.ensures.begun.count in
     let low = c.requires.order k d lt in
     omega (arith, low, count)
 
 pub close-requires-clause-run : goal.close-requires-clause-run
-close-requires-clause-run g c =
-    let t = c.turns-answer.ensures in
-    let order : List ℕ = map (λ (cpu : CpuValue). cpu.0) c.args.order.now in
-    let count : length c.in_ok-all.all.items ≡ length c.args.scripts = search rules in
-    let run = turns-have-run g.P.Port.made g.P.Port.faults g.P.Port.never_fails c.args.world c.args.scripts c.args.ports.now.items c.start_all.new.ports.items c.in_ok-all.all.items c.turns-answer.new.processors.items c.requires.begins c.in_ok-all.ensures.ports c.in_ok-all.ensures.seen count t.later
-    order c.turns-answer.result (c.turns-answer.new.memory, c.turns-answer.new.areas) c.and.result t.stand.together t.finished t.turned c.and.ensures in
-    (c.args.world, c.args.scripts, Some order, c.args.ports.now.items, refl, run)
+close-requires-clause-run g c = (c.args.world, c.args.scripts, Some (numbers c.args.order.now), c.args.ports.now.items, refl, has-run g (goal.at.close-requires-clause-run g c).After-and)
 
 pub returns : goal.returns
 returns g c =
-    let t = c.turns-answer.ensures in
-    let order : List ℕ = map (λ (cpu : CpuValue). cpu.0) c.args.order.now in
-    let count : length c.in_ok-all.all.items ≡ length c.args.scripts = search rules in
-    let run = turns-have-run g.P.Port.made g.P.Port.faults g.P.Port.never_fails c.args.world c.args.scripts c.args.ports.now.items c.start_all.new.ports.items c.in_ok-all.all.items c.turns-answer.new.processors.items c.requires.begins c.in_ok-all.ensures.ports c.in_ok-all.ensures.seen count t.later
-    order c.turns-answer.result (c.turns-answer.new.memory, c.turns-answer.new.areas) c.and.result t.stand.together t.finished t.turned c.and.ensures in
-    let told = c.close.ensures c.args.world c.args.scripts (Some order) c.args.ports.now.items refl run in
+    let told = c.close.ensures c.args.world c.args.scripts (Some (numbers c.args.order.now)) c.args.ports.now.items refl (has-run g (goal.at.returns g c).After-and) in
     record { boot = told.boot_is; scripts = told.scripts_are; run = told.run; final_runs = told.final_runs; halted = told.halted; kept = told.kept }

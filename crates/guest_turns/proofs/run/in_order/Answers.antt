@@ -16,16 +16,15 @@ loop-cpu-preserved g c =
     let between = ground_of c.loop-cpu.memory c.loop-cpu.areas.items in
     let after = ground_of c.turn.new.memory c.turn.new.areas.items in
     let inv = c.loop-cpu.invariant in
-    let e = c.in_ok-turn.ensures in
     let items = c.as_slice-cpu-items.result.now in
     let k = c.loop-cpu.cpu-index in
     let none : CpuNo = record { 0 = 0 } in
     let some = map (λ (cpu : CpuNo). cpu.0) (take k c.args.order.now) in
     let within : k < length items = omega arith in
     record {
-      go_on = go_on-then seen g.T.Processor.stands g.T.Processor.never_fails old mid new before between after inv.go_on e.go_on;
+      go_on = go_on-then seen g.T.Processor.stands g.T.Processor.never_fails old mid new before between after inv.go_on c.in_ok-turn.ensures.go_on;
       walk = subst (λ turns. WalksOn turns (map seen old) (map seen new) before after) (numbers-more items c.args.order.now k none c.as_slice-cpu-items.ensures within)
-          (walks-then some ((get_or items k none).0 ∷ []) (map seen old) (map seen mid) (map seen new) before between after inv.go_on.stand.together.same.memory inv.walk e.walk);
+          (walks-then some ((get_or items k none).0 ∷ []) (map seen old) (map seen mid) (map seen new) before between after inv.go_on.stand.together.same.memory inv.walk c.in_ok-turn.ensures.walk);
     }
 
 pub returns-clause-walk : goal.returns-clause-walk

@@ -17,12 +17,11 @@ loop-cpu-preserved g c =
     let between = ground_of c.loop-cpu.memory c.loop-cpu.areas.items in
     let after = ground_of c.turn.new.memory c.turn.new.areas.items in
     let inv = c.loop-cpu.invariant in
-    let e = c.in_ok-turn.ensures in
     let cpu = c.loop-cpu.cpu in
     record {
-      go_on = go_on-then seen g.T.Processor.stands g.T.Processor.never_fails old mid new before between after inv.go_on e.go_on;
+      go_on = go_on-then seen g.T.Processor.stands g.T.Processor.never_fails old mid new before between after inv.go_on c.in_ok-turn.ensures.go_on;
       walk = subst (λ turns. WalksOn turns (map seen old) (map seen new) before after) (sym (numbers-next cpu))
-          (walks-then (numbers_from 0 cpu) (cpu ∷ []) (map seen old) (map seen mid) (map seen new) before between after inv.go_on.stand.together.same.memory inv.walk e.walk);
+          (walks-then (numbers_from 0 cpu) (cpu ∷ []) (map seen old) (map seen mid) (map seen new) before between after inv.go_on.stand.together.same.memory inv.walk c.in_ok-turn.ensures.walk);
       so_far = so_far-push c.in_ok-turn.field-0 c.turn.result cpu (map seen old) (map seen mid) (map seen new) before between after c.in_ok-turn.was c.turn.ensures.event c.turn.ensures.none inv.so_far;
     }
 

@@ -35,7 +35,6 @@ returns-clause-go_on g c =
 pub returns-clause-walk : goal.returns-clause-walk
 returns-clause-walk g c =
     let seen = g.T.Processor.seen in
-    let laws = g.met.T.Processor g.world.𝓛 g.world.𝓜 g.world.𝓡 (λ s allowed. allowed, λ patient. patient, λ alone. alone, λ cuts. cuts) in
     let all = c.args.processors.now.items in
     let was = c.index_mut.result.now in
     let now = c.one_turn.new.processor in

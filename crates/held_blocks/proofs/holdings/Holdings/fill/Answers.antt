@@ -27,10 +27,4 @@ pub returns-clause-err : goal.returns-clause-err
 returns-clause-err c =
     rw (← c.self.view_is)
     (where-err c.fill.result
-    (λ same. record {
-      own = own-blocks c.self.inside.blocks c.fill.new.self c.self.inside.mappings c.self.inside.looks same;
-      layout = refl;
-      block_room = c.fill.ensures.room;
-      mapping_room = omega arith;
-    })
-    c.fill.ensures.err)
+    (λ same. record { own = own-blocks c.self.inside.blocks c.fill.new.self c.self.inside.mappings c.self.inside.looks same; layout = refl; block_room = c.fill.ensures.room; mapping_room = omega arith }) c.fill.ensures.err)

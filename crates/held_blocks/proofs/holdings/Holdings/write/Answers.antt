@@ -26,10 +26,4 @@ pub returns-clause-err : goal.returns-clause-err
 returns-clause-err c =
     rw (← c.self.view_is)
     (where-err c.write.result
-    (λ same. record {
-      own = own-blocks c.self.inside.blocks c.write.new.self c.self.inside.mappings c.self.inside.looks same;
-      layout = refl;
-      block_room = c.write.ensures.room;
-      mapping_room = omega arith;
-    })
-    c.write.ensures.err)
+    (λ same. record { own = own-blocks c.self.inside.blocks c.write.new.self c.self.inside.mappings c.self.inside.looks same; layout = refl; block_room = c.write.ensures.room; mapping_room = omega arith }) c.write.ensures.err)
